@@ -1,0 +1,4 @@
+pub mod Tokens
+pub mod Sound
+pub mod Answers
+pub mod Scenes
