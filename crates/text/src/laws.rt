@@ -3,9 +3,6 @@
 ghost use mathlib.Core.Path.{_≡_};
 ghost use Rattle.text.specs.Lexed.{Cut-law, End-law, Size-law};
 
-/// What a theorem answers when it stands.
-const STANDS: u8 = 0;
-
 /// The laws that settle the tokens of every text: the first one and then those of the rest, up to Eof.
 pub fn format_stands() -> u8
     ensures value { λ r. ⌜ r ≡ 0 ⌝ }
@@ -13,5 +10,5 @@ pub fn format_stands() -> u8
     ensures end { λ _. ⌜ End-law ⌝ }
     ensures size { λ _. ⌜ Size-law ⌝ }
 {
-    STANDS
+    0
 }

@@ -10,9 +10,6 @@ ghost use Rattle.list.specs.Lists.{Noted, contents, lender, listed, memory, ro
 ghost use Rattle.list.specs.Noting.{NotingJoins};
 use super::List;
 
-/// What a theorem answers.
-const STANDS: u8 = 0;
-
 impl<'a, T: Copy> List<'a, T> {
     /// An empty list over the lent memory, which stays as it is.
     pub fn new(items: &'a mut [T]) -> List<'a, T>
@@ -85,5 +82,5 @@ pub fn noting_joins<T: Copy>() -> u8
     ensures value { λ r. ⌜ r ≡ 0 ⌝ }
     ensures joins { λ _. ⌜ NotingJoins T ⌝ }
 {
-    STANDS
+    0
 }
