@@ -1,6 +1,9 @@
 -- Modifier keywords: their numbers and the words that they are written as.
 use Prim.Native.Nat.{ℕ}
-use mathlib.Core.List.{List}
+use mathlib.Core.Bool.{Bool}
+use mathlib.Core.List.{List, [], _∷_}
+use lib.Dec.{eqb}
+use lib.ListN.{getD}
 use lib.Chars.{codes}
 use Rattle.kinds.specs.declared.modifier_kind.ModifierKind.{ModifierKind}
 use Rattle.kinds.specs.declared.modifier_kind.ModifierKind.the-variants.{Declare, Private, Protected, Public, Static, Readonly, Abstract, Override, Async, Const, In, Out, Default, Accessor, Export}
@@ -40,3 +43,15 @@ wordOf Out = codes "out"
 wordOf Default = codes "default"
 wordOf Accessor = codes "accessor"
 wordOf Export = codes "export"
+
+-- whether two kinds are the same
+abbrev pub sameKind : ModifierKind → ModifierKind → Bool
+sameKind a b = eqb (modifierNumber a) (modifierNumber b)
+
+-- every kind, in the order of their numbers
+abbrev pub everyKind : List ModifierKind
+everyKind = Declare ∷ Private ∷ Protected ∷ Public ∷ Static ∷ Readonly ∷ Abstract ∷ Override ∷ Async ∷ Const ∷ In ∷ Out ∷ Default ∷ Accessor ∷ Export ∷ []
+
+-- the kind with a number
+abbrev pub kindAt : ℕ → ModifierKind
+kindAt n = getD everyKind n Declare

@@ -1,0 +1,2 @@
+pub mod Sequels
+pub mod Steps

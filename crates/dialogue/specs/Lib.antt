@@ -1,0 +1,3 @@
+pub mod Fatal
+pub mod Dialogues
+pub mod Spoken
