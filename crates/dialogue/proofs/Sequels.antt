@@ -39,9 +39,10 @@ module _ {A B : Type 0} (f : A → Dialogue B) where
     reports : gains (then d f) s ≡ gains d s ++ gains-of (outcome d s) (after d s)
 
   pick : (p : Bool) (d e : Dialogue A) (s t : Scene) → Follows d s → Follows e t → record {
-      value : cond p (outcome (then d f) s) (outcome (then e f) t) ≡ outcome-of (cond p (outcome d s) (outcome e t)) (cond p (after d s) (after e t));
-      means : cond p (after (then d f) s) (after (then e f) t) ≡ after-of (cond p (outcome d s) (outcome e t)) (cond p (after d s) (after e t));
-      reports : cond p (gains (then d f) s) (gains (then e f) t) ≡ cond p (gains d s) (gains e t) ++ gains-of (cond p (outcome d s) (outcome e t)) (cond p (after d s) (after e t)) }
+    value : cond p (outcome (then d f) s) (outcome (then e f) t) ≡ outcome-of (cond p (outcome d s) (outcome e t)) (cond p (after d s) (after e t));
+    means : cond p (after (then d f) s) (after (then e f) t) ≡ after-of (cond p (outcome d s) (outcome e t)) (cond p (after d s) (after e t));
+    reports : cond p (gains (then d f) s) (gains (then e f) t) ≡ cond p (gains d s) (gains e t) ++ gains-of (cond p (outcome d s) (outcome e t)) (cond p (after d s) (after e t));
+  }
   pick true d e s t h k = record { value = h .value; means = h .means; reports = h .reports }
   pick false d e s t h k = record { value = k .value; means = k .means; reports = k .reports }
 

@@ -89,7 +89,7 @@ module _ {A : Type 0} {s s′ : Scene} {l l′ : Held Report} {r : Result A Fata
   pub keywords-spoke : (t : ListSettings) (k : List Modifier → Dialogue A) {m : Modifiers} {s₁ : Scene} {l₁ : Held Report} → KeywordsRead t s s₁ m l l₁ → Spoke (k (entries m)) s₁ s′ l₁ l′ r → Spoke (takeKeywords t k) s s′ l l′ r
   keywords-spoke t k {m} {s₁} {l₁} w x =
       let y : Spoke (k (lasts (keptOf t s))) (past (length (keptOf t s)) s) s′ l₁ l′ r =
-        subst (λ (z : List Modifier). Spoke (k z) (past (length (keptOf t s)) s) s′ l₁ l′ r) (w .kept) (subst (λ (z : Scene). Spoke (k (entries m)) z s′ l₁ l′ r) (w .after) x) in
+      subst (λ (z : List Modifier). Spoke (k z) (past (length (keptOf t s)) s) s′ l₁ l′ r) (w .kept) (subst (λ (z : Scene). Spoke (k (entries m)) z s′ l₁ l′ r) (w .after) x) in
       record { value = y .value; means = y .means; reports = noted-then (w .reports) (y .reports) }
 
   pub check-spoke : (c : ClassCheck) (ms : List Modifier) (d : Dialogue A) {l₁ : Held Report} → Noted l l₁ (checkReports c ms) → Spoke d s s′ l₁ l′ r → Spoke (check c ms d) s s′ l l′ r
@@ -98,13 +98,13 @@ module _ {A : Type 0} {s s′ : Scene} {l l′ : Held Report} {r : Result A Fata
   pub part-spoke : (p : Part) (c : ℕ) (k : Result Span Span → Dialogue A) {a : Result Span Span} {s₁ : Scene} → a ≡ partAt p c s .result → s₁ ≡ past (partAt p c s .count) s → Spoke (k a) s₁ s′ l l′ r → Spoke (takePart p c k) s s′ l l′ r
   part-spoke p c k {a} {s₁} e f x =
       let y : Spoke (k (partAt p c s .result)) (past (partAt p c s .count) s) s′ l l′ r =
-        subst (λ (z : Result Span Span). Spoke (k z) (past (partAt p c s .count) s) s′ l l′ r) e (subst (λ (z : Scene). Spoke (k a) z s′ l l′ r) f x) in
+      subst (λ (z : Result Span Span). Spoke (k z) (past (partAt p c s .count) s) s′ l l′ r) e (subst (λ (z : Scene). Spoke (k a) z s′ l l′ r) f x) in
       record { value = y .value; means = y .means; reports = y .reports }
 
   pub method-spoke : (c : ℕ) (k : Result MethodFacts Span → Dialogue A) {a : Result MethodFacts Span} {s₁ : Scene} → a ≡ methodAt c s .result → s₁ ≡ past (methodAt c s .count) s → Spoke (k a) s₁ s′ l l′ r → Spoke (takeMethod c k) s s′ l l′ r
   method-spoke c k {a} {s₁} e f x =
       let y : Spoke (k (methodAt c s .result)) (past (methodAt c s .count) s) s′ l l′ r =
-        subst (λ (z : Result MethodFacts Span). Spoke (k z) (past (methodAt c s .count) s) s′ l l′ r) e (subst (λ (z : Scene). Spoke (k a) z s′ l l′ r) f x) in
+      subst (λ (z : Result MethodFacts Span). Spoke (k z) (past (methodAt c s .count) s) s′ l l′ r) e (subst (λ (z : Scene). Spoke (k a) z s′ l l′ r) f x) in
       record { value = y .value; means = y .means; reports = y .reports }
 
   pub index-spoke : (c : ℕ) (k : Bool → Dialogue A) {b : Bool} → b ≡ indexAt c s → Spoke (k b) s s′ l l′ r → Spoke (askIndex c k) s s′ l l′ r

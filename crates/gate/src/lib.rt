@@ -1,9 +1,11 @@
-//! The gate as a whole: from the bytes of a class body to the verdict, through text, trivia layer and session. It knows
-//! nothing of standard input and of printing.
+//! The gate as a whole: from the bytes of a class body to the verdict, through brackets, trivia layer, text and session.
+//! It knows nothing of standard input and of printing.
 
 ghost use mathlib.Core.Path.{_≡_};
 ghost use Rattle.gate.specs.Verdicts.{gateQuestions};
 ghost use Rattle.refusal.specs.Questions.{firstNo, numberOf};
+use brackets::BracketReader;
+use brackets::Brackets;
 use kinds::context::Context;
 use laws::read_body;
 use reader::TokenReader;
@@ -24,7 +26,8 @@ pub fn judge(text: &[u8]) -> Option<Refusal>
     if refused.is_some() {
         return refused;
     }
-    let mut script = Trivia::new(reader);
+    let tokens = Trivia::new(reader);
+    let mut script = Brackets::new(tokens);
     let mut session = Session::new(Language::TypeScript, Context::none());
     read_body(&mut session, &mut script)
 }

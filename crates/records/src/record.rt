@@ -70,7 +70,11 @@ pub enum Form {
     Constructor(Method),
     Property(Property),
     Accessor(Accessor),
-    IndexSignature { is_static: bool, readonly: bool, rest: Span },
+    IndexSignature {
+        is_static: bool,
+        readonly: bool,
+        rest: Span,
+    },
     StaticBlock(Span),
 }
 

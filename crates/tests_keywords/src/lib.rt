@@ -43,7 +43,12 @@ fn report(rule: u8, start: u32, end: u32, kind: u8, other: u8, allowed: u16) -> 
 }
 
 fn same(a: Report, b: Report) -> bool {
-    a.rule == b.rule && a.start == b.start && a.end == b.end && a.kind == b.kind && a.other == b.other && a.allowed == b.allowed
+    a.rule == b.rule
+        && a.start == b.start
+        && a.end == b.end
+        && a.kind == b.kind
+        && a.other == b.other
+        && a.allowed == b.allowed
 }
 
 fn holds(list: &mut List<'_, Report>, wanted: &[Report]) -> bool {
@@ -104,7 +109,12 @@ mod tests {
         check(keeps(b"readonly\nx", MEMBER, &[], 0))?;
         check(keeps(b"static\nx", MEMBER, &[(4, 0)], 7))?;
         check(keeps(b"static static x", MEMBER, &[(4, 0)], 7))?;
-        check(keeps(b"readonly declare readonly x", MEMBER, &[(0, 9), (5, 17)], 26))?;
+        check(keeps(
+            b"readonly declare readonly x",
+            MEMBER,
+            &[(0, 9), (5, 17)],
+            26,
+        ))?;
         check(keeps(b"readonly /* a */ async #x", MEMBER, &[(5, 0), (8, 17)], 23))?;
         check(keeps(b"readonly", MEMBER, &[], 0))?;
         check(keeps(b"readonly;", MEMBER, &[], 0))
@@ -124,9 +134,21 @@ mod tests {
 
     #[test]
     fn order_reports() -> Result<(), Fail> {
-        check(orders(b"readonly static abstract x", &[report(5, 9, 15, 4, 5, 65535), report(3, 16, 24, 6, 4, 65535)]))?;
-        check(orders(b"readonly abstract private x", &[report(5, 18, 25, 1, 5, 65535)]))?;
-        check(orders(b"readonly declare readonly x", &[report(2, 17, 25, 5, 255, 65535)]))?;
+        check(orders(
+            b"readonly static abstract x",
+            &[
+                report(5, 9, 15, 4, 5, 65535),
+                report(3, 16, 24, 6, 4, 65535),
+            ],
+        ))?;
+        check(orders(
+            b"readonly abstract private x",
+            &[report(5, 18, 25, 1, 5, 65535)],
+        ))?;
+        check(orders(
+            b"readonly declare readonly x",
+            &[report(2, 17, 25, 5, 255, 65535)],
+        ))?;
         check(orders(b"override declare x", &[report(4, 9, 16, 0, 7, 65535)]))?;
         check(orders(b"declare override x", &[report(3, 8, 16, 7, 0, 65535)]))?;
         check(orders(b"static static x", &[]))?;
@@ -135,13 +157,52 @@ mod tests {
 
     #[test]
     fn checks_of_members() -> Result<(), Fail> {
-        check(checked(b"default export x", ClassCheck::Element, &[report(6, 0, 7, 12, 255, 65535), report(6, 8, 14, 14, 255, 65535)]))?;
-        check(checked(b"readonly x", ClassCheck::Accessor, &[report(17, 0, 8, 5, 255, 65535)]))?;
-        check(checked(b"async declare accessor x", ClassCheck::Accessor, &[report(15, 0, 5, 8, 255, 65535), report(15, 6, 13, 0, 255, 65535), report(14, 14, 22, 13, 255, 65535)]))?;
-        check(checked(b"async x", ClassCheck::IndexSignature, &[report(9, 0, 5, 8, 255, 48)]))?;
-        check(checked(b"readonly accessor readonly x", ClassCheck::AccessorProperty, &[report(13, 18, 26, 5, 255, 8414)]))?;
-        check(checked(b"declare readonly x", ClassCheck::Method, &[report(6, 0, 7, 0, 255, 478), report(17, 8, 16, 5, 255, 478)]))?;
-        check(checked(b"const in out x", ClassCheck::ConstInOut, &[report(10, 0, 5, 9, 255, 65535), report(11, 6, 8, 10, 255, 65535), report(11, 9, 12, 11, 255, 65535)]))?;
+        check(checked(
+            b"default export x",
+            ClassCheck::Element,
+            &[
+                report(6, 0, 7, 12, 255, 65535),
+                report(6, 8, 14, 14, 255, 65535),
+            ],
+        ))?;
+        check(checked(
+            b"readonly x",
+            ClassCheck::Accessor,
+            &[report(17, 0, 8, 5, 255, 65535)],
+        ))?;
+        check(checked(
+            b"async declare accessor x",
+            ClassCheck::Accessor,
+            &[
+                report(15, 0, 5, 8, 255, 65535),
+                report(15, 6, 13, 0, 255, 65535),
+                report(14, 14, 22, 13, 255, 65535),
+            ],
+        ))?;
+        check(checked(
+            b"async x",
+            ClassCheck::IndexSignature,
+            &[report(9, 0, 5, 8, 255, 48)],
+        ))?;
+        check(checked(
+            b"readonly accessor readonly x",
+            ClassCheck::AccessorProperty,
+            &[report(13, 18, 26, 5, 255, 8414)],
+        ))?;
+        check(checked(
+            b"declare readonly x",
+            ClassCheck::Method,
+            &[report(6, 0, 7, 0, 255, 478), report(17, 8, 16, 5, 255, 478)],
+        ))?;
+        check(checked(
+            b"const in out x",
+            ClassCheck::ConstInOut,
+            &[
+                report(10, 0, 5, 9, 255, 65535),
+                report(11, 6, 8, 10, 255, 65535),
+                report(11, 9, 12, 11, 255, 65535),
+            ],
+        ))?;
         check(checked(b"static async x", ClassCheck::JavaScript, &[]))
     }
 }

@@ -28,8 +28,8 @@ returns c =
     let n = some-number (opened .result .refused) in
     let z : isSome (firstNo (textQuestions bs)) ≡ false = cc in
     let below : textTokens (opened .result .reader) ≡ lexed bs = opened .ensures .tokens ∙ means-lexed bs z in
-    let above : triviaTokens textTokens (c .new-script .result) ≡ tokensOf bs =
-    c .new-script .ensures .sound (opened .ensures .sound) .0 ∙ ap (withoutSkips false) below in
+    let above : triviaTokens textTokens (c .new-script .result .below) ≡ tokensOf bs =
+    c .new-script .ensures .tokens ∙ c .new-tokens .ensures .sound (opened .ensures .sound) .0 ∙ ap (withoutSkips false) below in
     c .read-body .ensures .whole (ap (λ s. eqb (stateNumber (s .state)) 0) (c .new-session .ensures))
     ∙ ap (λ ts. firstNo (braces ts)) above
     ∙ sym (then-next (textQuestions bs) (braces (tokensOf bs)) z)

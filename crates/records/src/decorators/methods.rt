@@ -9,6 +9,7 @@ use super::Decorators;
 use parts::Span;
 
 const MOST: u8 = 16;
+
 const NOWHERE: Span = Span { start: 0, end: 0 };
 
 impl Decorators {

@@ -1,0 +1,6 @@
+pub mod Answering
+pub mod Walking
+pub mod Bounds
+pub mod Stretching
+pub mod Listing
+pub mod Laws

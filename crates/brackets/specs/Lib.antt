@@ -1,0 +1,5 @@
+pub mod Depth
+pub mod Readings
+pub mod Parameters
+pub mod Format
+pub mod Inner
