@@ -4,5 +4,6 @@
 
 pub mod class_check;
 pub mod class_checks;
+pub mod stands;
 pub mod verifying;
 pub mod wording;

@@ -1,9 +1,14 @@
 //! Running a check, whatever its wording is.
 
+ghost use mathlib.Core.List.{List as Listed};
+ghost use mathlib.Core.Path.{_≡_};
+ghost use Rattle.checks.specs.Laws.{CheckedOnce};
 ghost use Rattle.checks.specs.Sayings.{disallowedReports, given, reportUnless, saidOf};
+ghost use Rattle.keywords.specs.Run.{lasts};
 ghost use Rattle.kinds.specs.Modifiers.{modifierNumber};
 ghost use Rattle.list.specs.Lists.{Noted};
 ghost use Rattle.modifiers.specs.Lists.{entries};
+ghost use Rattle.modifiers.specs.declared.modifier.Modifier.{Modifier};
 ghost use Rattle.small_set.specs.Members.{member};
 use crate::wording::Wording;
 use kinds::ModifierKinds;
@@ -46,7 +51,8 @@ pub fn verify_modifiers<W: Wording>(
     check: &Check<W>,
     reports: &mut List<'_, Report>,
 )
-    ensures { λ _. ⌜ Noted (now (reports .entry)) (now (reports .exit)) (disallowedReports (now (check .entry) .allowed .bits) (now (check .entry) .strict) (W·Wording .says (now (check .entry) .wording)) (entries modifiers)) ⌝ }
+    ensures noted { λ _. ⌜ Noted (now (reports .entry)) (now (reports .exit)) (disallowedReports (now (check .entry) .allowed .bits) (now (check .entry) .strict) (W·Wording .says (now (check .entry) .wording)) (entries modifiers)) ⌝ }
+    ensures once { λ _. ⌜ ((kept : Listed Modifier) → entries modifiers ≡ lasts kept → CheckedOnce (now (check .entry) .allowed .bits) (now (check .entry) .strict) (W·Wording .says (now (check .entry) .wording)) kept (disallowedReports (now (check .entry) .allowed .bits) (now (check .entry) .strict) (W·Wording .says (now (check .entry) .wording)) (entries modifiers))) ⌝ }
 {
     for i in 0..modifiers.len() {
         let Some(m) = modifiers.placed_at(i) else {

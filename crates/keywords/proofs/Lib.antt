@@ -1,1 +1,4 @@
+pub mod Cuts
+pub mod Earned
+pub mod Longest
 pub mod Reading

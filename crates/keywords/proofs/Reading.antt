@@ -2,7 +2,7 @@
 use mathlib.Core.Bool.{Bool, true, false, cond}
 use mathlib.Core.List.{List, [], _∷_, _++_, append-nil, append-assoc}
 use mathlib.Core.Path.{_≡_, refl, ap, ap₂, sym, subst, _∙_}
-use Prim.Native.Nat.{ℕ, zero, suc, _+_}
+use Prim.Native.Nat.{ℕ, zero, suc, _+_, _<_, _^_}
 use native.Mathlib.Omega.{arith}
 use lib.ListN.{length}
 use Rattle.std.specs.declared.option.Option.{Option}
@@ -11,6 +11,10 @@ use Rattle.std.proofs.shelf.Ways.{tells}
 use Rattle.kinds.specs.Modifiers.{modifierNumber}
 use Rattle.kinds.specs.declared.modifier_kind.ModifierKind.{ModifierKind}
 use Rattle.kinds.specs.declared.modifier_kind.ModifierKind.the-variants.{Static}
+use Rattle.keywords.proofs.Cuts.{lasts-push, length-push}
+use Rattle.keywords.proofs.Earned.{orders-earned}
+use Rattle.keywords.proofs.Longest.{longest-run}
+use Rattle.keywords.specs.Laws.{LongestRun, OrderEarned}
 use Rattle.keywords.specs.Run.{KeywordsRead, eligible, keptFrom, keptOf, keywordHere, keywordIf, lasts, lastsFrom, orderReport, orderReports}
 use Rattle.keywords.specs.declared.ListSettings.{ListSettings}
 use Rattle.list.proofs.Noting.{noted-none, noted-then}
@@ -21,6 +25,7 @@ use Rattle.modifiers.specs.Lists.{entries}
 use Rattle.modifiers.specs.declared.modifier.Modifier.{Modifier}
 use Rattle.modifiers.specs.declared.modifiers.Modifiers.{Modifiers}
 use Rattle.reader.specs.Scenes.{Scene, past, pastOne}
+use Rattle.reader.specs.Sound.{sound}
 use Rattle.reader.specs.Tokens.{ahead, head, isEof, lastAfter, lastEnd, next}
 use Rattle.reports.specs.declared.Report.{Report}
 use Rattle.small_set.specs.Members.{member}
@@ -32,10 +37,6 @@ use Rattle.verdicts.specs.declared.order.OrderVerdict.{OrderVerdict}
 -- the set of the kept kinds says as much as the list
 pub same-order : (bits : ℕ) (ms : List Modifier) (k : ModifierKind) → ((j : ModifierKind) → member bits (modifierNumber j) ≡ keeps j ms) → orderOf (λ j. member bits (modifierNumber j)) k ≡ orderOf (λ j. keeps j ms) k
 same-order bits ms k h i = orderOf (λ j. h j i) k
-
-lasts-push : (ms ks : List Modifier) (k : Modifier) → lastsFrom ms (ks ++ (k ∷ [])) ≡ added (lastsFrom ms ks) k
-lasts-push ms [] k = refl
-lasts-push ms (j ∷ ks) k = lasts-push (added ms j) ks k
 
 orders-push : (ms ks : List Modifier) (k : Modifier) → orderReports ms (ks ++ (k ∷ [])) ≡ orderReports ms ks ++ orderReport (lastsFrom ms ks) k
 orders-push ms [] k = append-nil (orderReport ms k)
@@ -51,10 +52,6 @@ last-more (suc n) ts x = last-more n (next ts) (lastEnd ts x)
 
 past-more : (n : ℕ) (s : Scene) → past (suc n) s ≡ pastOne (past n s)
 past-more n s i = record { tokens = ahead-more n (s .tokens) i; last = last-more n (s .tokens) (s .last) i; answers = s .answers }
-
-length-push : (ks : List Modifier) (k : Modifier) → length (ks ++ (k ∷ [])) ≡ suc (length ks)
-length-push [] k = refl
-length-push (j ∷ ks) k = ap suc (length-push ks k)
 
 -- some keywords were read, and those from here on are yet to be
 pub record Read (t : ListSettings) (s₀ s : Scene) (ms : List Modifier) (l₀ l : Held Report) : Type 0 where
@@ -129,6 +126,11 @@ pub end-is : (b : Bool) (x y : ℕ) → Some y ≡ cond b (Some x) None → y �
 end-is true x y e = cc
 end-is false x y e = let z : _≡_ {A = ℕ} 0 1 = cc in absurd (omega arith)
 
+-- no keyword at all
+pub no-keyword : (t : ListSettings) (ms : List Modifier) (ts : List Token) {x : Token} → x ≡ head ts → None ≡ modifierOf (x .kind) → keywordHere t ms (head ts) (head (next ts)) ≡ None
+no-keyword t ms ts {x} cur none =
+    ap (λ o. keywordIf t ms o (head ts) (head (next ts))) (sym (none ∙ ap (λ (y : Token). modifierOf (y .kind)) cur))
+
 -- what the reader gives is what the list has
 module _ (t : ListSettings) (ms : List Modifier) (ts : List Token) {x n : Token} {k : ModifierKind} {b : Bool} (cur : x ≡ head ts) (peek : n ≡ head (next ts)) (is : Some k ≡ modifierOf (x .kind)) (kept : b ≡ keeps Static ms) where
   here-at : (o : Option Modifier) → cond (eligible t b k n) (cond (mayFollow ms (wordAt k (x .start))) (Some (wordAt k (x .start))) None) None ≡ o → keywordHere t ms (head ts) (head (next ts)) ≡ o
@@ -152,5 +154,19 @@ module _ (t : ListSettings) (ms : List Modifier) (ts : List Token) {x n : Token}
       let p : Some k ≡ None = is ∙ ap (λ (y : Token). modifierOf (y .kind)) cur ∙ ap modifierOf z in
       let y : _≡_ {A = ℕ} 0 1 = cc in omega arith
 
-pub read-done : {t : ListSettings} {s₀ s : Scene} (m : Modifiers) {l₀ l : Held Report} → Read t s₀ s (entries m) l₀ l → keywordHere t (entries m) (head (s .tokens)) (head (next (s .tokens))) ≡ None → KeywordsRead t s₀ s m l₀ l
-read-done m r h = let x = read-all r h in record { kept = x .0; after = x .1; reports = x .2 }
+-- what a list comes to
+pub record Done (t : ListSettings) (s₀ s : Scene) (m : Modifiers) (l₀ l : Held Report) : Type 0 where
+  pub read : KeywordsRead t s₀ s m l₀ l
+  pub longest : sound (s₀ .tokens) ≡ true → LongestRun t (s₀ .tokens) (keptOf t s₀)
+  pub orders : OrderEarned (keptOf t s₀) (orderReports [] (keptOf t s₀))
+
+-- once no keyword is here; the current token, as the code holds it, ends within 32 bits
+pub read-done : {t : ListSettings} {s₀ s : Scene} (m : Modifiers) {l₀ l : Held Report} {x : Token} → x ≡ head (s .tokens) → x .end < 2 ^ 32 → Read t s₀ s (entries m) l₀ l → keywordHere t (entries m) (head (s .tokens)) (head (next (s .tokens))) ≡ None → Done t s₀ s m l₀ l
+read-done {t} {s₀} {s} m cur fit r h =
+    let x = read-all r h in
+    let f : head (s .tokens) .end < 2 ^ 32 = subst (λ (y : Token). y .end < 2 ^ 32) cur fit in
+    record {
+      read = record { kept = x .0; after = x .1; reports = x .2 };
+      longest = λ g. longest-run t (s₀ .tokens) g (subst (λ (z : Scene). head (z .tokens) .end < 2 ^ 32) (x .1) f);
+      orders = orders-earned (keptOf t s₀);
+    }

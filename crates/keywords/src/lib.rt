@@ -2,12 +2,15 @@
 //! their order earns. This crate knows which keywords are kept, and not what is checked of them afterwards.
 
 ghost use mathlib.Core.Bool.{true};
+ghost use mathlib.Core.List.{[]};
 ghost use mathlib.Core.Path.{_≡_};
-ghost use Rattle.keywords.specs.Run.{KeywordsRead, eligible, followsOnLine, orderReport};
+ghost use Rattle.keywords.specs.Laws.{LongestRun, OrderEarned};
+ghost use Rattle.keywords.specs.Run.{KeywordsRead, eligible, followsOnLine, keptOf, orderReport, orderReports};
 ghost use Rattle.list.specs.Lists.{Noted};
 ghost use Rattle.modifiers.specs.Entries.{mayFollow, wordAt};
 ghost use Rattle.modifiers.specs.Lists.{entries};
 ghost use Rattle.reader.specs.Scenes.{scene};
+ghost use Rattle.reader.specs.Sound.{sound};
 use kinds::ModifierKind;
 use list::list::List;
 use modifiers::Modifier;
@@ -65,7 +68,9 @@ pub fn parse_modifiers<R: TokenReader>(
     settings: ListSettings,
     reports: &mut List<'_, Report>,
 ) -> Modifiers
-    ensures { λ r. ⌜ KeywordsRead settings (scene R·TokenReader (now (script .entry))) (scene R·TokenReader (now (script .exit))) r (now (reports .entry)) (now (reports .exit)) ⌝ }
+    ensures read { λ r. ⌜ KeywordsRead settings (scene R·TokenReader (now (script .entry))) (scene R·TokenReader (now (script .exit))) r (now (reports .entry)) (now (reports .exit)) ⌝ }
+    ensures longest { λ _. ⌜ (sound (R·TokenReader .tokens (now (script .entry))) ≡ true → LongestRun settings (R·TokenReader .tokens (now (script .entry))) (keptOf settings (scene R·TokenReader (now (script .entry))))) ⌝ }
+    ensures orders { λ _. ⌜ OrderEarned (keptOf settings (scene R·TokenReader (now (script .entry)))) (orderReports [] (keptOf settings (scene R·TokenReader (now (script .entry))))) ⌝ }
 {
     let mut kept = Modifiers::none();
     loop {

@@ -1,22 +1,33 @@
 use mathlib.Core.Path.{refl, sym, ap}
+use Prim.Native.Nat.{_<_, _^_}
 use native.Mathlib.Omega.{arith}
 use lib.ListN.{length}
-use Rattle.keywords.proofs.Reading.{here, is-more, not-after, not-eligible, read-done, read-more}
+use Rattle.keywords.proofs.Reading.{here, is-more, no-keyword, not-after, not-eligible, read-done, read-more}
 use Rattle.modifiers.specs.Entries.{wordAt}
 use Rattle.modifiers.specs.Lists.{entries}
 use Rattle.reader.proofs.Closing.{next-falls}
 use Rattle.keywords.proofs.parse_modifiers.Needs as need
 
+pub returns-in-rest : need.returns-in-rest
+returns-in-rest g c =
+    let l : c .current-token .result .end < 2 ^ 32 = omega arith in
+    let d = read-done (c .loop-kind .kept′) (c .current-token .ensures .value) l (c .loop-kind .inv)
+    (no-keyword (c .args .settings) (entries (c .loop-kind .kept′)) (g .R·TokenReader .tokens (c .loop-kind .script)) (c .current-token .ensures .value) (c .in-rest .ensures tt)) in
+    record { read = d .read; longest = d .longest; orders = d .orders }
+
 pub returns-then-not-is-eligible : need.returns-then-not-is-eligible
 returns-then-not-is-eligible g c =
-    read-done (c .loop-kind .kept′) (c .loop-kind .inv)
-    (not-eligible (c .args .settings) (entries (c .loop-kind .kept′)) (g .R·TokenReader .tokens (c .loop-kind .script)) (c .current-token .ensures .value) (c .peek .ensures .value) (c .in-Some .ensures tt) (c .contains-static-kept .ensures) (c .if-not-is-eligible .ensures tt))
+    let l : c .current-token .result .end < 2 ^ 32 = omega arith in
+    let d = read-done (c .loop-kind .kept′) (c .current-token .ensures .value) l (c .loop-kind .inv)
+    (not-eligible (c .args .settings) (entries (c .loop-kind .kept′)) (g .R·TokenReader .tokens (c .loop-kind .script)) (c .current-token .ensures .value) (c .peek .ensures .value) (c .in-Some .ensures tt) (c .contains-static-kept .ensures) (c .if-not-is-eligible .ensures tt)) in
+    record { read = d .read; longest = d .longest; orders = d .orders }
 
 pub returns-then-not-add : need.returns-then-not-add
 returns-then-not-add g c =
-    rw (c .if-not-add .ensures tt .refused refl)
-    (read-done (c .loop-kind .kept′) (c .loop-kind .inv)
-    (not-after (c .args .settings) (entries (c .loop-kind .kept′)) (g .R·TokenReader .tokens (c .loop-kind .script)) (c .current-token .ensures .value) (c .peek .ensures .value) (c .in-Some .ensures tt) (c .contains-static-kept .ensures) (c .if-not-is-eligible .ensures tt) (c .if-not-add .ensures tt .taken)))
+    let l : c .current-token .result .end < 2 ^ 32 = omega arith in
+    let d = read-done (c .loop-kind .kept′) (c .current-token .ensures .value) l (c .loop-kind .inv)
+    (not-after (c .args .settings) (entries (c .loop-kind .kept′)) (g .R·TokenReader .tokens (c .loop-kind .script)) (c .current-token .ensures .value) (c .peek .ensures .value) (c .in-Some .ensures tt) (c .contains-static-kept .ensures) (c .if-not-is-eligible .ensures tt) (c .if-not-add .ensures tt .taken)) in
+    rw (c .if-not-add .ensures tt .refused refl) (record { read = d .read; longest = d .longest; orders = d .orders })
 
 pub loop-kind-less : need.loop-kind-less
 loop-kind-less g c =

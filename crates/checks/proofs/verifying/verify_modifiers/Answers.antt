@@ -3,7 +3,9 @@ use Prim.Native.Nat.{_<_, _≤_}
 use native.Mathlib.Omega.{arith}
 use lib.ListN.{length}
 use lib.Seq.{take-all}
+use Rattle.checks.proofs.Once.{checked-lasts}
 use Rattle.checks.proofs.Steps.{checked-more, never-none}
+use Rattle.modifiers.proofs.Laws.{entries-rise}
 use Rattle.modifiers.specs.Lists.{entries}
 use Rattle.checks.proofs.verifying.verify_modifiers.Needs as need
 
@@ -21,5 +23,9 @@ loop-i-again g c =
 pub returns : need.returns
 returns g c =
     let e = c .len-i-end .ensures in
+    let k = c .args .check .now in
     let l : length (entries (c .args .modifiers)) ≤ c .loop-i .i = omega arith in
-    rw (take-all (c .loop-i .i) (entries (c .args .modifiers)) l) at (c .loop-i .inv)
+    record {
+      noted = rw (take-all (c .loop-i .i) (entries (c .args .modifiers)) l) at (c .loop-i .inv);
+      once = λ kept h. checked-lasts (k .allowed .bits) (k .strict) (g .W·Wording .says (k .wording)) kept (entries (c .args .modifiers)) h (entries-rise (c .args .modifiers));
+    }
