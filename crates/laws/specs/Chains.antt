@@ -1,7 +1,7 @@
 -- Chains of calls: each goes on from where the one before, refused or not, stopped.
 use mathlib.Core.List.{List, [], _∷_}
 use mathlib.Core.Path.{_≡_}
-use Rattle.laws.specs.Outcomes.{refusedIn}
+use Rattle.laws.specs.Outcomes.{saidBy}
 use Rattle.laws.specs.declared.outcome.Outcome.{Outcome}
 use Rattle.list.specs.Lists.{Noted}
 use Rattle.list.specs.declared.list.List.{List as Held}
@@ -17,7 +17,7 @@ pub record Happened : Type 0 where
 
 -- it did what such a call does
 abbrev pub Step : Happened → Type 0
-Step x = Did (x .call) (refusedIn (x .told)) (x .before) (x .after)
+Step x = Did (x .call) (saidBy (x .told)) (x .before) (x .after)
 
 -- from one world to another
 abbrev pub Ran : World → List Happened → World → Type 0

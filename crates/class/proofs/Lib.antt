@@ -1,0 +1,3 @@
+pub mod Decorators
+pub mod Setters
+pub mod Steps
