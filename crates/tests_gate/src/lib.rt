@@ -87,7 +87,13 @@ fn four(text: &[u8]) -> [usize; 7] {
 }
 
 fn same(a: [usize; 7], b: [usize; 7]) -> bool {
-    a[0] == b[0] && a[1] == b[1] && a[2] == b[2] && a[3] == b[3] && a[4] == b[4] && a[5] == b[5] && a[6] == b[6]
+    a[0] == b[0]
+        && a[1] == b[1]
+        && a[2] == b[2]
+        && a[3] == b[3]
+        && a[4] == b[4]
+        && a[5] == b[5]
+        && a[6] == b[6]
 }
 
 fn told(outcome: Option<Outcome>) -> u8 {
@@ -127,7 +133,14 @@ fn nine_calls<S: ScriptReader>(script: &mut S) -> [u8; 9] {
         Call::Close,
         Call::Standing,
     ];
-    perform(&mut session, script, &mut reports, &mut members, &calls, &mut list);
+    perform(
+        &mut session,
+        script,
+        &mut reports,
+        &mut members,
+        &calls,
+        &mut list,
+    );
     [
         told(list.get(0)),
         told(list.get(1)),
@@ -149,7 +162,10 @@ mod tests {
     #[test]
     fn bodies() -> Result<(), Fail> {
         check(same(four(b"{ /* nothing yet */ }"), [0, 0, 0, 0, 0, 0, 0]))?;
-        check(same(four(b"// a class body\r\n{\n}\nafter"), [0, 0, 0, 0, 0, 0, 0]))?;
+        check(same(
+            four(b"// a class body\r\n{\n}\nafter"),
+            [0, 0, 0, 0, 0, 0, 0],
+        ))?;
         check(same(four(b"x"), [0, 0, 0, 0, 8, 0, 0]))?;
         check(same(four(b""), [0, 0, 0, 0, 8, 0, 0]))?;
         check(same(four(b"{"), [1, 0, 0, 51, 0, 51, 1]))?;
@@ -158,9 +174,18 @@ mod tests {
 
     #[test]
     fn members() -> Result<(), Fail> {
-        check(same(four(b"{;static x; #y = 1; get z() {} static {}}"), [0, 0, 4, 0, 10, 0, 0]))?;
-        check(same(four(b"{readonly accessor readonly expires}"), [2, 0, 1, 0, 0, 13, 19]))?;
-        check(same(four(b"{readonly declare constructor() {}}"), [2, 0, 1, 0, 0, 16, 10]))?;
+        check(same(
+            four(b"{;static x; #y = 1; get z() {} static {}}"),
+            [0, 0, 4, 0, 10, 0, 0],
+        ))?;
+        check(same(
+            four(b"{readonly accessor readonly expires}"),
+            [2, 0, 1, 0, 0, 13, 19],
+        ))?;
+        check(same(
+            four(b"{readonly declare constructor() {}}"),
+            [2, 0, 1, 0, 0, 16, 10],
+        ))?;
         check(same(four(b"{x y}"), [1, 0, 0, 49, 0, 49, 3]))?;
         check(same(four(b"{accessor x y}"), [1, 0, 0, 50, 0, 50, 11]))
     }
@@ -174,8 +199,14 @@ mod tests {
         check(same(judged(body, &mut [], &mut two), [0, 2, 1, 0, 0, 0, 0]))?;
         check(same(judged(body, &mut one, &mut []), [0, 0, 0, 0, 10, 0, 0]))?;
         check(same(judged(b"{x y}", &mut [], &mut two), [0, 1, 0, 49, 0, 0, 0]))?;
-        check(same(judged(b"{@a@a@a@a@a@a@a@a@a@a@a@a@a@a@a@a x}", &mut [], &mut two), [0, 0, 1, 0, 0, 0, 0]))?;
-        check(same(judged(b"{@a@a@a@a@a@a@a@a@a@a@a@a@a@a@a@a@a x}", &mut [], &mut two), [0, 1, 0, 52, 0, 0, 0]))
+        check(same(
+            judged(b"{@a@a@a@a@a@a@a@a@a@a@a@a@a@a@a@a x}", &mut [], &mut two),
+            [0, 0, 1, 0, 0, 0, 0],
+        ))?;
+        check(same(
+            judged(b"{@a@a@a@a@a@a@a@a@a@a@a@a@a@a@a@a@a x}", &mut [], &mut two),
+            [0, 1, 0, 52, 0, 0, 0],
+        ))
     }
 
     #[test]
