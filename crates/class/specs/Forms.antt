@@ -75,7 +75,7 @@ indexD c ms ds =
 abbrev pub anyKind : ℕ → Bool
 anyKind k = true
 
--- the current token, whatever it is, and what follows it
+-- the current token, whatever it is, and what follows it (every kind passes, so the second way never comes up)
 abbrev pub takenD : {A : Type 0} → Dialogue A → Dialogue A
 takenD d = eat anyKind (λ _. d) (λ t. stop Unexpected (placeAt t))
 
