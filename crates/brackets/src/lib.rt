@@ -2,6 +2,8 @@
 //! end. It stands in for a parser of expressions, types and statements, and may not know one: it sees kinds, places and
 //! line breaks of tokens, and neither text nor context.
 
+#![tactic(auto)]
+
 ghost use Rattle.std.specs.Prelude.{◌≡◌, true};
 ghost use Rattle.reader.specs.Sound.{sound};
 ghost use Rattle.brackets.specs.Format.{bracket_answers};

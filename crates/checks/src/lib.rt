@@ -2,6 +2,8 @@
 //! ascending start. The checks of class members stand here as a table. This crate does not know which member reaches
 //! which check.
 
+#![tactic(auto)]
+
 pub mod class_check;
 pub mod class_checks;
 pub mod stands;

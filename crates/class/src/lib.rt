@@ -2,6 +2,8 @@
 //! that it speaks. This crate knows the forms of ECMAScript and TypeScript and what they may not hold; where tokens come
 //! from, where an expression, a type or a method's rest ends, and what is made of a record, it may not know.
 
+#![tactic(auto)]
+
 pub mod blocks;
 pub mod decorating;
 pub mod forms;

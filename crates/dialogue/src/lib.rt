@@ -1,6 +1,8 @@
 //! Dialogues with a script reader: the words in which a member's contract is written. This crate has the type of a
 //! fatal rule and no code of its own but that.
 
+#![tactic(auto)]
+
 ghost use Rattle.std.specs.Prelude.{◌≡◌};
 ghost use Rattle.dialogue.specs.Fatal.{fatal_number};
 

@@ -1,6 +1,8 @@
 //! The gate as a whole: from the bytes of a class body to the verdict, through brackets, trivia layer, text and session.
 //! It knows nothing of standard input and of printing.
 
+#![tactic(auto)]
+
 ghost use Rattle.gate.specs.Verdicts.{Judged};
 ghost use Rattle.refusal.specs.Questions.{number_of};
 ghost use Rattle.session.specs.Boards.{member_board, report_board};

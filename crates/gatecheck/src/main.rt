@@ -1,5 +1,7 @@
 //! Reads a class body from standard input and prints the gate's reports and its verdict.
 
+#![tactic(auto)]
+
 ghost use Rattle.std.specs.Prelude.{◌≤◌, length, IfOk};
 
 use dialogue::Fatal;

@@ -1,6 +1,8 @@
 //! Keyword lists: reading the modifier keywords at the front of a member over any token reader, with the reports that
 //! their order earns. This crate knows which keywords are kept, and not what is checked of them afterwards.
 
+#![tactic(auto)]
+
 ghost use Rattle.std.specs.Prelude.{◌≡◌, true, []};
 ghost use Rattle.keywords.specs.Laws.{LongestRun, OrderEarned};
 ghost use Rattle.keywords.specs.Run.{KeywordsRead, eligible, follows_on_line, kept_of, order_report, order_reports};

@@ -2,6 +2,8 @@
 //! and the sets of them.
 //!
 //! It knows their numbers and their words, and neither what they mean nor where one may stand.
+#![tactic(auto)]
+
 pub mod context;
 pub mod modifier_kind;
 pub mod modifier_kinds;

@@ -1,6 +1,8 @@
 //! Chains of calls on a session, whatever they are and over whichever reader, and what holds of every such chain. The
 //! gate's own order of calls is one of them. This crate knows the calls only by what they promise.
 
+#![tactic(auto)]
+
 ghost use Rattle.std.specs.Prelude.{◌≡◌};
 ghost use Rattle.laws.specs.Bodies.{ReadFrom};
 ghost use Rattle.laws.specs.Chains.{Performed};

@@ -1,6 +1,8 @@
 //! The lexical format of a class body: what stands at the front of a text, with its kind and size. This crate knows
 //! neither where in a script the text begins, nor what stood before it, nor who reads the tokens.
 
+#![tactic(auto)]
+
 ghost use Rattle.std.specs.Prelude.{◌≡◌, ◌≤◌, length};
 ghost use Rattle.lexeme.specs.Format.{lexeme_of};
 

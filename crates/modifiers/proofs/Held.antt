@@ -4,7 +4,7 @@ use Rattle.std.specs.List.{list_all, slice_get}
 use Rattle.std.proofs.lemmas.List.Elements.{filter_more}
 use Rattle.std.proofs.lemmas.List.{take_more, take_more_set, map_push, length-map, length-take-le, get_or-map, get_or-take, get_or-set_same, get_or-set_other}
 use Rattle.std.proofs.lemmas.Option.{slice_get-get_or, slice_get_past}
-use Rattle.std.proofs.lemmas.Bool.{and_parts, and_from, or_parts, cases_Bool, not_true, not-false, not_from_false, eqb-true, eqb-false, eq-eqb, ne_eqb, ltb-true, lt-ltb, cases_lt, both_ways}
+use Rattle.std.proofs.lemmas.Bool.{and_parts, and_from, or_parts, cases_Bool, not-true, not-false, not_from_false, eqb-true, eqb-false, eq-eqb, ne_eqb, ltb-true, lt-ltb, cases_lt, both_ways}
 use Rattle.kinds.specs.Modifiers.{modifier_number}
 use Rattle.kinds.specs.declared.modifier_kind.ModifierKind.{ModifierKind}
 use Rattle.modifiers.specs.declared.modifier.Modifier.{Modifier}
@@ -53,8 +53,8 @@ left_listed starts kind start (x ∷ xs) h =
   where
     step : (b : Bool) → differs (modifier_number kind) x ≡ b → x < 15 → listed (set starts (modifier_number kind) start) (filter (differs (modifier_number kind)) xs) ≡ without kind (listed starts xs) → listed (set starts (modifier_number kind) start) (cond b (x ∷ filter (differs (modifier_number kind)) xs) (filter (differs (modifier_number kind)) xs)) ≡ without kind (listed starts (x ∷ xs))
     step true e l ih =
-        ap₂ ◌∷◌ (entry_same (entry_at (set starts (modifier_number kind) start) x) (entry_at starts x) (get_or-set_other starts (modifier_number kind) x start 0 (eqb-false x (modifier_number kind) (not_true (eqb x (modifier_number kind)) e))) refl) ih
-        ∙ sym (ap (λ t. cond (not t) (entry_at starts x ∷ without kind (listed starts xs)) (without kind (listed starts xs))) (ap (λ m. eqb m (modifier_number kind)) (number_at x l) ∙ not_true (eqb x (modifier_number kind)) e))
+        ap₂ ◌∷◌ (entry_same (entry_at (set starts (modifier_number kind) start) x) (entry_at starts x) (get_or-set_other starts (modifier_number kind) x start 0 (eqb-false x (modifier_number kind) (not-true (eqb x (modifier_number kind)) e))) refl) ih
+        ∙ sym (ap (λ t. cond (not t) (entry_at starts x ∷ without kind (listed starts xs)) (without kind (listed starts xs))) (ap (λ m. eqb m (modifier_number kind)) (number_at x l) ∙ not-true (eqb x (modifier_number kind)) e))
     step false e l ih =
         ih
         ∙ sym (ap (λ t. cond (not t) (entry_at starts x ∷ without kind (listed starts xs)) (without kind (listed starts xs))) (ap (λ m. eqb m (modifier_number kind)) (number_at x l) ∙ not-false (eqb x (modifier_number kind)) e))

@@ -1,7 +1,7 @@
 -- Lists of keywords: what a keyword more does to them.
 use Rattle.std.proofs.Common.{◌≡◌, ℕ, suc, ◌+◌, ◌<◌, ◌≤◌, Bool, true, false, cond, not, ◌&&◌, ◌||◌, eqb, ltb, List, [], ◌∷◌, ◌++◌, length, filter, sym, refl, ap, ◌∙◌, subst, ap₂, ⊎_elim, arith, length-append}
 use Rattle.std.specs.List.{list_all}
-use Rattle.std.proofs.lemmas.Bool.{and_parts, and_from, or_cases, or_left, or_right, cases_Bool, not_true, not_from_false, eqb-true, eq-eqb, ltb-true, lt-ltb, both_ways}
+use Rattle.std.proofs.lemmas.Bool.{and_parts, and_from, or_cases, or_left, or_right, cases_Bool, not-true, not_from_false, eqb-true, eq-eqb, ltb-true, lt-ltb, both_ways}
 use Rattle.std.proofs.lemmas.Bool.Decides.{nat_tests}
 use Rattle.kinds.specs.Modifiers.{modifier_number}
 use Rattle.kinds.specs.declared.modifier_kind.ModifierKind.{ModifierKind}
@@ -69,7 +69,7 @@ apart_left k (m ∷ ms) h = step (not (same_kind m.kind k)) (and_parts (not (kee
     step : (b : Bool) → not (keeps m.kind ms) ≡ true → apart (without k ms) ≡ true → apart (cond b (m ∷ without k ms) (without k ms)) ≡ true
     step true e ih =
         and_from (not (keeps m.kind (without k ms))) (apart (without k ms))
-        (not_from_false (keeps m.kind (without k ms)) (keeps_less m.kind k ms (not_true (keeps m.kind ms) e))) ih
+        (not_from_false (keeps m.kind (without k ms)) (keeps_less m.kind k ms (not-true (keeps m.kind ms) e))) ih
     step false e ih = ih
 
 apart_push : (ms : List Modifier) (m : Modifier) → apart ms ≡ true → keeps m.kind ms ≡ false → apart (ms ++ (m ∷ [])) ≡ true
@@ -102,7 +102,7 @@ one_less k (m ∷ ms) h = step (same_kind m.kind k) refl (and_parts (not (keeps 
     same e (x ∷ xs) = let ih = same e xs in grind (arith, nat_tests)
 
     step : (b : Bool) → same_kind m.kind k ≡ b → not (keeps m.kind ms) ≡ true → length ms ≤ suc (length (without k ms)) → suc (length ms) ≤ suc (length (cond (not b) (m ∷ without k ms) (without k ms)))
-    step true e f ih = let q = ap length (left_alone k ms (sym (same e ms) ∙ not_true (keeps m.kind ms) f)) in omega arith
+    step true e f ih = let q = ap length (left_alone k ms (sym (same e ms) ∙ not-true (keeps m.kind ms) f)) in omega arith
     step false e f ih = omega arith
 
 few_of : (row : List ModifierKind) (ms : List Modifier) → apart ms ≡ true → ((k : ModifierKind) → keeps k ms ≡ true → among k row ≡ true) → length ms ≤ length row

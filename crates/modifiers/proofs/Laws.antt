@@ -1,7 +1,7 @@
 -- What holds of the kept keywords, whatever was added: for the proofs of callers.
 use Rattle.std.proofs.Common.{◌≡◌, ℕ, zero, suc, ◌<◌, ◌≤◌, Bool, true, false, not, ◌&&◌, ltb, List, [], ◌∷◌, length, get_or, arith}
 use Rattle.std.specs.List.{list_all}
-use Rattle.std.proofs.lemmas.Bool.{and_from, and_parts, lt-ltb, ltb-true, not_true, or_parts}
+use Rattle.std.proofs.lemmas.Bool.{and_from, and_parts, lt-ltb, ltb-true, not-true, or_parts}
 use Rattle.small_set.specs.Members.{member}
 use Rattle.kinds.specs.Modifiers.{modifier_number}
 use Rattle.kinds.specs.declared.modifier_kind.ModifierKind.{ModifierKind}
@@ -44,7 +44,7 @@ not_kept k (m ∷ ms) (suc i) d l h = not_kept k ms i d (omega arith) (or_parts 
 pub kinds_differ : (ms : List Modifier) → apart ms ≡ true → (i j : ℕ) (d : Modifier) → i < j → j < length ms → same_kind (get_or ms j d).kind (get_or ms i d).kind ≡ false
 kinds_differ [] h i j d l r = let z : ⊥ = omega arith in absurd z
 kinds_differ (m ∷ ms) h i zero d l r = let z : ⊥ = omega arith in absurd z
-kinds_differ (m ∷ ms) h zero (suc j) d l r = not_kept m.kind ms j d (omega arith) (not_true (keeps m.kind ms) (and_parts (not (keeps m.kind ms)) (apart ms) h).0)
+kinds_differ (m ∷ ms) h zero (suc j) d l r = not_kept m.kind ms j d (omega arith) (not-true (keeps m.kind ms) (and_parts (not (keeps m.kind ms)) (apart ms) h).0)
 kinds_differ (m ∷ ms) h (suc i) (suc j) d l r = kinds_differ ms (and_parts (not (keeps m.kind ms)) (apart ms) h).1 i j d (omega arith) (omega arith)
 
 pub starts_rise : (ms : List Modifier) → ascending ms ≡ true → (i j : ℕ) (d : Modifier) → i < j → j < length ms → (get_or ms i d).start < (get_or ms j d).start

@@ -3,6 +3,8 @@
 //!
 //! It knows kinds, their words and places, and neither which kinds may stand together nor who
 //! reads them.
+#![tactic(auto)]
+
 pub mod modifier;
 pub mod modifiers;
 

@@ -1,6 +1,8 @@
 //! The parts of a class member that a script reader takes as a whole, and what it tells of one. Types alone: where a
 //! part ends is the reader's to say, and what is made of it the member's.
 
+#![tactic(auto)]
+
 /// A stretch of the script in bytes, its end not included.
 #[derive(Clone, Copy)]
 pub struct Span {

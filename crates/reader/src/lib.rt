@@ -2,6 +2,8 @@
 //! and the end of the last token taken; a reader of scripts also means an answer for each part. This crate knows
 //! neither where the tokens come from nor what is made of them.
 
+#![tactic(auto)]
+
 ghost use Rattle.std.specs.Prelude.{◌≡◌, ℕ, true, List};
 ghost use Rattle.reader.specs.Answers.{Answers, no_answers};
 ghost use Rattle.reader.specs.Sound.{sound};

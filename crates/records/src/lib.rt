@@ -1,6 +1,8 @@
 //! Member records: what is kept of a member that was read. Types, and the decorators' list. It does not know how a
 //! member is read.
 
+#![tactic(auto)]
+
 pub mod decorators;
 pub mod record;
 

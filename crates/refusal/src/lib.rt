@@ -1,5 +1,7 @@
 //! Why a table, a text or a call is refused: one enum for the whole gate, so that every refusal has its number.
 
+#![tactic(auto)]
+
 ghost use Rattle.std.specs.Prelude.{◌≡◌};
 ghost use Rattle.refusal.specs.Numbers.{refusal_number};
 

@@ -1,5 +1,7 @@
 //! Reports: what a rule says of a place in the script. This crate knows the form of a report and no rule.
 
+#![tactic(auto)]
+
 ghost use Rattle.std.specs.Prelude.{◌≡◌};
 ghost use Rattle.reports.specs.Reports.{at_place, bits_of, keyword_report};
 

@@ -1,6 +1,8 @@
 //! Keyword lists written out, each with the keywords that it keeps and the reports that their order earns.
 //! This crate has no part in reading a list: it pins what the definitions say of short texts.
 
+#![tactic(auto)]
+
 ghost use Rattle.samples.specs.Samples.{SamplesStand};
 ghost use Rattle.std.specs.Prelude.{◌≡◌};
 

@@ -1,6 +1,8 @@
 //! The script reader: a token reader that also takes whole parts of a member. Who tells where a decorator, an
 //! expression, a type, a method's rest, a block or an index signature ends is whoever implements it.
 
+#![tactic(auto)]
+
 ghost use Rattle.std.specs.Prelude.{◌≡◌, true};
 ghost use Rattle.reader.specs.Scenes.{past, scene};
 ghost use Rattle.reader.specs.Sound.{sound};

@@ -1,6 +1,8 @@
 //! Sessions: a class body is opened, read member by member and closed, over any reader. A session asks its questions in
 //! order, and a refused call changes nothing. It knows nothing of where tokens come from, nor what a member is made of.
 
+#![tactic(auto)]
+
 ghost use Rattle.std.specs.Prelude.{◌≡◌, Ok};
 ghost use Rattle.reader.specs.Scenes.{Scene, scene};
 ghost use Rattle.records.specs.Told.{Told};

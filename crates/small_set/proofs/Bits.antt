@@ -5,7 +5,7 @@ use lib.Dec.{eqb-zero-suc, eqb-suc-zero, eqb-suc-suc}
 use lib.Bits.{bit_and, bit_or, bit_xor, and_shr, or_shr, xor_shr, and_step, or_step, xor_step}
 use lib.Count.{ones, ones_step, ones_cat, ones-le}
 use Rattle.std.proofs.lemmas.Nat.{shr-shr, mod-pow-add, mod_below, div_below}
-use Rattle.std.proofs.lemmas.Bool.{cases_lt, lt-ltb, le-ltb, cases_Bool, and_from, and_left, both_ways, eqb-true, eqb-false, not_true, not-false}
+use Rattle.std.proofs.lemmas.Bool.{cases_lt, lt-ltb, le-ltb, cases_Bool, and_from, and_left, both_ways, eqb-true, eqb-false, not-true, not-false}
 use Rattle.small_set.specs.Members.{member, members_below}
 
 abbrev bit : ℕ → ℕ → ℕ
@@ -127,7 +127,7 @@ some_member (suc n) bits h p =
 
 -- the test against 0 says whether a set has members
 pub inhabited : (bits : ℕ) → bits < 65536 → not (eqb bits 0) ≡ true → (j : ℕ) × (member bits j ≡ true)
-inhabited bits h t = some_member 16 bits h (let e = eqb-false bits 0 (not_true _ t) in omega arith)
+inhabited bits h t = some_member 16 bits h (let e = eqb-false bits 0 (not-true _ t) in omega arith)
 
 pub empty : (bits : ℕ) → not (eqb bits 0) ≡ false → (j : ℕ) → member bits j ≡ false
 empty bits t j = ap (λ n. member n j) (eqb-true bits 0 (not-false _ t)) ∙ zero_member j

@@ -2,6 +2,8 @@
 //!
 //! It knows that a kind has a number and how many kinds there are, and no kind by name.
 //! The functions take plain bits; a type of its own over them keeps bits of no kind out.
+#![tactic(auto)]
+
 ghost use Rattle.std.specs.Prelude.{◌≡◌, ℕ, ◌^◌, ◌<◌, ◌≤◌, true, false, not, ◌&&◌, ◌||◌, length, MatchOption, ◌==◌, nat_lt};
 ghost use Rattle.small_set.specs.Members.{Lowest, NoneAmong, member, members};
 

@@ -1,5 +1,7 @@
 //! Tests of sessions, of chains of calls and of the gate as a whole.
 
+#![tactic(auto)]
+
 use brackets::Brackets;
 use gate::{Verdict, judge};
 use kinds::context::Context;

@@ -1,5 +1,7 @@
 //! Tests of keyword lists, order reports and checks.
 
+#![tactic(auto)]
+
 use checks::class_check::ClassCheck;
 use checks::class_checks::run_check;
 use keywords::{ListSettings, parse_modifiers};

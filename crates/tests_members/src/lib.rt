@@ -1,6 +1,8 @@
 //! Tests of members: bodies that earn every rule and have every form, in both languages, ambient and not. What is wanted
 //! of each is what the Rust answers with the six corrections.
 
+#![tactic(auto)]
+
 use brackets::Brackets;
 use kinds::context::Context;
 use laws::read_body;

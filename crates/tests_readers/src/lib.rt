@@ -1,5 +1,7 @@
 //! Tests of the token readers and of the list at their limits.
 
+#![tactic(auto)]
+
 use list::list::List;
 use reader::{Ahead, TokenReader};
 use refusal::Refusal;

@@ -1,5 +1,7 @@
 //! Tests of the script readers and of the context guard.
 
+#![tactic(auto)]
+
 use brackets::Brackets;
 use guard::change::Change;
 use guard::guarding::seen_under;

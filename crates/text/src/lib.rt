@@ -1,6 +1,8 @@
 //! A token reader over a text that is lent: it holds the current token and lexes the next one when it is asked for.
 //! This crate knows neither what the tokens say nor that blanks and comments are left out by others.
 
+#![tactic(auto)]
+
 ghost use Rattle.std.specs.Prelude.{◌≤◌, length};
 
 use refusal::Refusal;

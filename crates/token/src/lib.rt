@@ -1,6 +1,8 @@
 //! Tokens: their kinds by code, what is asked of a kind, and the token itself. This crate knows no reader and no
 //! text: whether a token is well formed, and where tokens come from, is said above it.
 
+#![tactic(auto)]
+
 pub mod kind;
 
 /// A token by plain numbers: a table that is handed in may hold codes of no kind, which its reader refuses.

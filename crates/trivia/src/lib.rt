@@ -1,6 +1,8 @@
 //! The trivia layer: a token reader over any other, without its blanks and comments. It holds four tokens back, so that
 //! a peek at distance 3 needs nothing of the reader below. It knows nothing of text.
 
+#![tactic(auto)]
+
 ghost use Rattle.std.specs.Prelude.{◌≡◌, true, false, ◌∷◌};
 ghost use Rattle.reader.specs.Sound.{sound};
 ghost use Rattle.reader.specs.Tokens.{closed};

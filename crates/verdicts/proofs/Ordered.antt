@@ -1,7 +1,7 @@
 -- The rules of the order, from its definition.
 use Rattle.std.proofs.Common.{◌≡◌, ℕ, ◌<◌, Bool, true, false, cond, not, ◌&&◌, eqb, ltb, List, [], ◌∷◌, Some, None, filter, Option, sym, refl, ap, ◌∙◌, subst, ⊎_elim, arith}
 use Rattle.std.specs.List.{list_all}
-use Rattle.std.proofs.lemmas.Bool.{and_parts, and_from, and_left, and_right, or_cases, or_left, or_right, cases_Bool, not_true, not-false, eqb-true, eq-eqb, ltb-true, both_ways, true≢false}
+use Rattle.std.proofs.lemmas.Bool.{and_parts, and_from, and_left, and_right, or_cases, or_left, or_right, cases_Bool, not-true, not-false, eqb-true, eq-eqb, ltb-true, both_ways, true≢false}
 use Rattle.small_set.specs.Members.{member, NoneAmong, Lowest}
 use Rattle.kinds.specs.Modifiers.{modifier_number}
 use Rattle.kinds.specs.declared.modifier_kind.ModifierKind.{ModifierKind}
@@ -111,7 +111,7 @@ module _ (kept : ModifierKind → Bool) (later : ModifierKind) where
   -- a kind that gets 2 is no accessibility, and so gets no 1
   not-both : Gets 2 kept later → Gets 1 kept later → ⊥
   not-both g f =
-      both_ways (is_accessibility later) (not_true (is_accessibility later) (repetition later g.0 g.2).1)
+      both_ways (is_accessibility later) (not-true (is_accessibility later) (repetition later g.0 g.2).1)
       (both_accessibilities later f.0 f.2).0
 
   -- an accessibility is asked for 1, and the kind itself for 2

@@ -3,6 +3,8 @@
 //!
 //! It knows the kinds and sets of them, and neither where a keyword was written nor how a verdict
 //! is worded.
+#![tactic(auto)]
+
 pub mod order;
 pub mod tables;
 

@@ -16,9 +16,9 @@ returns c h =
     let m = word_at k c.args.start in
     let v = c.in-Some.verdict in
     let said : order_of (λ j. keeps j ms) k ≡ Some v =
-    sym (same_order c.kinds.result.bits ms k c.kinds.ensures) ∙ sym c.order-verdict.ensures ∙ c.in-Some.is in
+    sym (same_order c.kinds.result.bits ms k c.kinds.ensures) ∙ sym c.order_verdict.ensures ∙ c.in-Some.is in
     let ends : c.in-Some-end.end ≡ end_of m = end_is (fits m) (end_of m) _ (sym c.in-Some-end.is ∙ c.end.ensures) in
-    let made : c.of-keyword.result ≡ keyword_report v.rule k (record { start = c.args.start; end = end_of m }) v.other None =
-    c.of-keyword.ensures ∙ ap (λ (e : ℕ). keyword_report v.rule k (record { start = c.args.start; end = e }) v.other None) ends in
+    let made : c.of_keyword.result ≡ keyword_report v.rule k (record { start = c.args.start; end = end_of m }) v.other None =
+    c.of_keyword.ensures ∙ ap (λ (e : ℕ). keyword_report v.rule k (record { start = c.args.start; end = e }) v.other None) ends in
     subst (λ (rs : List Report). Noted c.args.reports.now c.push.new.self rs)
     (ap (λ r. r ∷ []) made ∙ sym (ap (λ o. reports_of o m) said)) c.push.ensures.noted

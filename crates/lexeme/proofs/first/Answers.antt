@@ -9,34 +9,34 @@ returns-then-text-eq0 c =
     let e : c.plain.result ≡ lexeme_of c.args.text.now = search rules in
     record { value = e; within = first_within _ _ e }
 
-pub returns-then-is-blank : goal.returns-then-is-blank
+pub returns-then-is_blank : goal.returns-then-is_blank
 unfolding lexeme_of
-returns-then-is-blank c =
+returns-then-is_blank c =
     let e : c.blanks.result ≡ lexeme_of c.args.text.now = search rules in
     record { value = e; within = first_within _ _ e }
 
-pub returns-then-starts-name : goal.returns-then-starts-name
+pub returns-then-starts_name : goal.returns-then-starts_name
 unfolding lexeme_of
-returns-then-starts-name c =
+returns-then-starts_name c =
     let e : c.word.result ≡ lexeme_of c.args.text.now = search rules in
     record { value = e; within = first_within _ _ e }
 
-pub returns-then-is-ascii-digit : goal.returns-then-is-ascii-digit
+pub returns-then-is_ascii_digit : goal.returns-then-is_ascii_digit
 unfolding lexeme_of
-returns-then-is-ascii-digit c =
+returns-then-is_ascii_digit c =
     let e : c.digits.result ≡ lexeme_of c.args.text.now = search rules in
     record { value = e; within = first_within _ _ e }
 
-pub returns-then-is-quote : goal.returns-then-is-quote
+pub returns-then-is_quote : goal.returns-then-is_quote
 unfolding lexeme_of
-returns-then-is-quote c =
-    let e : c.string-literal.result ≡ lexeme_of c.args.text.now = search rules in
+returns-then-is_quote c =
+    let e : c.string_literal.result ≡ lexeme_of c.args.text.now = search rules in
     record { value = e; within = first_within _ _ e }
 
 pub returns-then-b-eq35 : goal.returns-then-b-eq35
 unfolding lexeme_of
 returns-then-b-eq35 c =
-    let e : c.private-name.result ≡ lexeme_of c.args.text.now = search rules in
+    let e : c.private_name.result ≡ lexeme_of c.args.text.now = search rules in
     record { value = e; within = first_within _ _ e }
 
 pub returns-then-b-eq47 : goal.returns-then-b-eq47

@@ -9,7 +9,7 @@ returns c =
     let each = c.intersection.ensures.each in
     record {
       holds = λ t.
-          let m = inhabited r c.intersection.type-inv t in
+          let m = inhabited r c.intersection.type_inv t in
           let p = and_parts _ _ (sym (each m.0) ∙ m.1) in
           (m.0, p.0, p.1);
       fails = λ e j. sym (each j) ∙ empty r e j;

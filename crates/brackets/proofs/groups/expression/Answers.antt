@@ -7,10 +7,10 @@ use Rattle.brackets.proofs.Bounds.{told_span}
 use Rattle.brackets.proofs.Laws.{expression_takes, expression_within}
 use Rattle.brackets.proofs.groups.expression.Goals as goal
 
-pub returns-then-ends-expression : goal.returns-then-ends-expression
-returns-then-ends-expression g c =
+pub returns-then-ends_expression : goal.returns-then-ends_expression
+returns-then-ends_expression g c =
     let s = scene g.R.TokenReader c.args.r.now in
-    let w = one_refused (λ k. not (ends_expression 0 k)) s c.current-first.result c.current-first.ensures.value (ap not (sym c.if-ends-expression.ensures)) in
+    let w = one_refused (λ k. not (ends_expression 0 k)) s c.current-first.result c.current-first.ensures.value (ap not (sym c.if-ends_expression.ensures)) in
     let v = unspanned expression_told (stopped _ _ w) in
     record { value = ap Err c.place.ensures ∙ v.value; after = v.after }
 
@@ -19,6 +19,6 @@ returns g c =
     let s = scene g.R.TokenReader c.args.r.now in
     let t = c.current-first.result in
     let a = c.advance.ensures in
-    let w = one_fits (λ k. not (ends_expression 0 k)) s _ t c.current-first.ensures.value (ap not (sym c.if-ends-expression.ensures)) (moved s.tokens s.last a.tokens a.last a.answers) in
-    let f = c.skip-expression.ensures ∙ ap (λ d. past (length (up_to ends_later d (g.R.TokenReader.tokens c.advance.new.self))) (scene g.R.TokenReader c.advance.new.self)) c.deeper.ensures in
-    told_span expression_told expression_within expression_takes (followed _ _ w (followed _ _ (took (goes_on t) _ f) (given _ _))) c.current-first.ensures.ends t c.current-first.ensures.value c.last-end.result c.last-end.ensures.value
+    let w = one_fits (λ k. not (ends_expression 0 k)) s _ t c.current-first.ensures.value (ap not (sym c.if-ends_expression.ensures)) (moved s.tokens s.last a.tokens a.last a.answers) in
+    let f = c.skip_expression.ensures ∙ ap (λ d. past (length (up_to ends_later d (g.R.TokenReader.tokens c.advance.new.self))) (scene g.R.TokenReader c.advance.new.self)) c.deeper.ensures in
+    told_span expression_told expression_within expression_takes (followed _ _ w (followed _ _ (took (goes_on t) _ f) (given _ _))) c.current-first.ensures.ends t c.current-first.ensures.value c.last_end.result c.last_end.ensures.value

@@ -4,28 +4,28 @@ use Rattle.token.specs.Kinds.{k_lcurly}
 use Rattle.brackets.proofs.Answering.{followed, given, if_not, if_so, refused_as, stopped}
 use Rattle.brackets.proofs.members.body.Goals as goal
 
-pub returns-in-err-block : goal.returns-in-err-block
-returns-in-err-block g c =
+pub returns-in_err-block : goal.returns-in_err-block
+returns-in_err-block g c =
     let t = head (g.R.TokenReader.tokens c.args.r.now) in
     let h : eqb t.kind k_lcurly ≡ true = eq-eqb _ _ (ap (λ u. u.kind) (sym c.current.ensures.value) ∙ c.if-current-eq-LCURLY.true) in
-    let f = c.from-residual in
-    refused_as f.result f.ensures.1 (if_so _ _ (eqb t.kind k_lcurly) h (stopped _ _ c.in-err-block.ensures))
+    let f = c.from_residual in
+    refused_as f.result f.ensures.1 (if_so _ _ (eqb t.kind k_lcurly) h (stopped _ _ c.in_err-block.ensures))
 
 pub returns-then-current-eq-LCURLY : goal.returns-then-current-eq-LCURLY
 returns-then-current-eq-LCURLY g c =
     let t = head (g.R.TokenReader.tokens c.args.r.now) in
     let h : eqb t.kind k_lcurly ≡ true = eq-eqb _ _ (ap (λ u. u.kind) (sym c.current.ensures.value) ∙ c.if-current-eq-LCURLY.true) in
-    if_so _ _ (eqb t.kind k_lcurly) h (followed _ _ c.in-ok-block.ensures (given _ _))
+    if_so _ _ (eqb t.kind k_lcurly) h (followed _ _ c.in_ok-block.ensures (given _ _))
 
-pub returns-in-err-semicolon : goal.returns-in-err-semicolon
-returns-in-err-semicolon g c =
+pub returns-in_err-semicolon : goal.returns-in_err-semicolon
+returns-in_err-semicolon g c =
     let t = head (g.R.TokenReader.tokens c.args.r.now) in
     let h : eqb t.kind k_lcurly ≡ false = ne_eqb _ _ (λ e. c.if-current-eq-LCURLY.false (ap (λ u. u.kind) c.current.ensures.value ∙ e)) in
-    let f = c.from-residual-in-err-semicolon in
-    refused_as f.result f.ensures.1 (if_not _ _ (eqb t.kind k_lcurly) h (stopped _ _ c.in-err-semicolon.ensures))
+    let f = c.from_residual-in_err-semicolon in
+    refused_as f.result f.ensures.1 (if_not _ _ (eqb t.kind k_lcurly) h (stopped _ _ c.in_err-semicolon.ensures))
 
 pub returns : goal.returns
 returns g c =
     let t = head (g.R.TokenReader.tokens c.args.r.now) in
     let h : eqb t.kind k_lcurly ≡ false = ne_eqb _ _ (λ e. c.if-current-eq-LCURLY.false (ap (λ u. u.kind) c.current.ensures.value ∙ e)) in
-    if_not _ _ (eqb t.kind k_lcurly) h (followed _ _ c.in-ok-semicolon.ensures (given _ _))
+    if_not _ _ (eqb t.kind k_lcurly) h (followed _ _ c.in_ok-semicolon.ensures (given _ _))

@@ -10,15 +10,15 @@ returns-then-current-ne-LANGLE g c =
     let h : eqb t.kind k_langle ≡ false = ne_eqb _ _ (λ e. c.if-current-ne-LANGLE.true (ap (λ u. u.kind) c.current.ensures.value ∙ e)) in
     if_not _ _ (eqb t.kind k_langle) h (given _ _)
 
-pub returns-in-err-found : goal.returns-in-err-found
-returns-in-err-found g c =
+pub returns-in_err-found : goal.returns-in_err-found
+returns-in_err-found g c =
     let t = head (g.R.TokenReader.tokens c.args.r.now) in
     let h : eqb t.kind k_langle ≡ true = eq-eqb _ _ (ap (λ u. u.kind) (sym c.current.ensures.value) ∙ c.if-current-ne-LANGLE.false) in
-    let f = c.from-residual in
-    refused_as f.result f.ensures.1 (if_so _ _ (eqb t.kind k_langle) h (stopped _ _ c.in-err-found.ensures))
+    let f = c.from_residual in
+    refused_as f.result f.ensures.1 (if_so _ _ (eqb t.kind k_langle) h (stopped _ _ c.in_err-found.ensures))
 
 pub returns : goal.returns
 returns g c =
     let t = head (g.R.TokenReader.tokens c.args.r.now) in
     let h : eqb t.kind k_langle ≡ true = eq-eqb _ _ (ap (λ u. u.kind) (sym c.current.ensures.value) ∙ c.if-current-ne-LANGLE.false) in
-    if_so _ _ (eqb t.kind k_langle) h (followed _ _ c.in-ok-found.ensures (given _ _))
+    if_so _ _ (eqb t.kind k_langle) h (followed _ _ c.in_ok-found.ensures (given _ _))

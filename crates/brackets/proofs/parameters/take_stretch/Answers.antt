@@ -21,7 +21,7 @@ loop-t-preserved g c =
     let d = c.loop-t.depth in
     let t = c.current-t.result in
     let p = c.current-t.ensures.value in
-    let h : ends_stretch d t ≡ false = sym c.if-ends-stretch.ensures in
+    let h : ends_stretch d t ≡ false = sym c.if-ends_stretch.ensures in
     let e = not_eof d t h in
     let a = c.advance.ensures in
     let k : c.extended-s.result.filled ≡ false → ⊥ = λ z. grind (arith, ap (λ x. x.filled) c.extended-s.ensures) in (
@@ -30,13 +30,13 @@ loop-t-preserved g c =
       record { kind = λ z. absurd (k z); start = λ z. absurd (k z) },
     )
 
-pub returns-then-ends-stretch : goal.returns-then-ends-stretch
-returns-then-ends-stretch g c =
+pub returns-then-ends_stretch : goal.returns-then-ends_stretch
+returns-then-ends_stretch g c =
     let s = scene g.R.TokenReader c.loop-t.r in
     let d = c.loop-t.depth in
     let t = c.current-t.result in
     let p = c.current-t.ensures.value in
-    let h : ends_stretch d t ≡ true = sym c.if-ends-stretch.ensures in
+    let h : ends_stretch d t ≡ true = sym c.if-ends_stretch.ensures in
     record {
       value = stretch_end c.loop-t.s d s.tokens t p c.loop-t.invariant.2 h ∙ c.loop-t.invariant.1;
       after = goal_end ends_stretch d s t p h ∙ c.loop-t.invariant.0;

@@ -5,16 +5,16 @@ use Rattle.modifiers.proofs.Laws.{entries_rise}
 use Rattle.modifiers.specs.Lists.{entries}
 use Rattle.checks.proofs.verifying.verify_modifiers.Goals as goal
 
-pub returns-in-default : goal.returns-in-default
-returns-in-default g c =
+pub returns-in_default : goal.returns-in_default
+returns-in_default g c =
     let e = c.len-i-end.ensures in
-    absurd (never_none (entries c.args.modifiers) c.loop-i.i (omega arith) c.in-default.ensures)
+    absurd (never_none (entries c.args.modifiers) c.loop-i.i (omega arith) c.in_default.ensures)
 
 pub loop-i-preserved : goal.loop-i-preserved
 loop-i-preserved g c =
     let e = c.len-i-end.ensures in
     let k = c.args.check.now in
-    checked_more k.allowed.bits k.strict (g.W.Wording.says k.wording) (entries c.args.modifiers) c.loop-i.i c.in-Some.m (omega arith) c.in-Some.ensures c.loop-i.invariant c.verify-one.ensures
+    checked_more k.allowed.bits k.strict (g.W.Wording.says k.wording) (entries c.args.modifiers) c.loop-i.i c.in-Some.m (omega arith) c.in-Some.ensures c.loop-i.invariant c.verify_one.ensures
 
 pub returns : goal.returns
 returns g c =

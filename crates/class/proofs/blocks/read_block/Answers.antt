@@ -12,7 +12,7 @@ unfolding block_d
 returns-in-Ok g c =
     record {
       spoke =
-          note_spoke _ _ refl c.note-decorators.ensures (check_spoke _ _ _ c.run-check.ensures
+          note_spoke _ _ refl c.note_decorators.ensures (check_spoke _ _ _ c.run_check.ensures
           (eat_yes _ _ _ refl refl c.take.ensures (then_spoke _ (part_d Block _) c.in-Ok.ensures.spoke (done_is refl))));
       context = c.in-Ok.ensures.context;
     }
@@ -22,7 +22,7 @@ unfolding block_d
 returns-in-Err g c =
     record {
       spoke =
-          note_spoke _ _ refl c.note-decorators.ensures (check_spoke _ _ _ c.run-check.ensures
+          note_spoke _ _ refl c.note_decorators.ensures (check_spoke _ _ _ c.run_check.ensures
           (eat_yes _ _ _ refl refl c.take.ensures (then_stopped _ (part_d Block _) c.in-Err.ensures.spoke)));
       context = c.in-Err.ensures.context;
     }

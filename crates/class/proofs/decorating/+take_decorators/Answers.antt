@@ -10,14 +10,14 @@ returns-then-not-is g t c = decorators_none _ _ c.args.left c.current-t.ensures.
 
 pub returns-then-left-eq0 : goal.returns-then-left-eq0
 returns-then-left-eq0 g t c =
-    decorators_full _ _ c.args.left (omega arith) c.current-t.ensures.value (sym c.if-not-is.ensures) (ap (at_place 52) c.place-at.ensures) c.note-fatal.ensures
+    decorators_full _ _ c.args.left (omega arith) c.current-t.ensures.value (sym c.if-not-is.ensures) (ap (at_place 52) c.place_at.ensures) c.note_fatal.ensures
 
 pub returns-in-Err : goal.returns-in-Err
 returns-in-Err g t c =
     decorators_refused _ _ c.args.left (c.args.left - 1) (one_less _ c.if-left-eq0.false) c.current-t.ensures.value (sym c.if-not-is.ensures) c.in-Err.ensures
 
-pub take-decorators-requires : goal.take-decorators-requires
-take-decorators-requires g t c κs within =
+pub take_decorators-requires : goal.take_decorators-requires
+take_decorators-requires g t c κs within =
     let a : ltb (length (spans_of c.args.decorators)) 16 ≡ true = grind (arith, nat_tests) in
     let e = ap length (c.push.ensures.pushed (c.push.ensures.answer ∙ a)) in
     let h = length_more (spans_of c.args.decorators) c.in-Ok.span in
@@ -27,4 +27,4 @@ take-decorators-requires g t c κs within =
 pub returns : goal.returns
 returns g t c =
     let a : ltb (length (spans_of c.args.decorators)) 16 ≡ true = grind (arith, nat_tests) in
-    decorators_more _ _ c.args.left (c.args.left - 1) (one_less _ c.if-left-eq0.false) c.current-t.ensures.value (sym c.if-not-is.ensures) c.in-Ok.ensures (c.push.ensures.pushed (c.push.ensures.answer ∙ a)) c.take-decorators.ensures
+    decorators_more _ _ c.args.left (c.args.left - 1) (one_less _ c.if-left-eq0.false) c.current-t.ensures.value (sym c.if-not-is.ensures) c.in-Ok.ensures (c.push.ensures.pushed (c.push.ensures.answer ∙ a)) c.take_decorators.ensures

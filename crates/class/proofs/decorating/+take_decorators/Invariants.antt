@@ -1,4 +1,4 @@
 use Rattle.class.proofs.decorating.+take_decorators.Given as goal
 
-abbrev pub decreases-take-decorators : goal.decreases-take-decorators
-decreases-take-decorators g l = l.left
+abbrev pub decreases-take_decorators : goal.decreases-take_decorators
+decreases-take_decorators g l = l.left

@@ -8,10 +8,10 @@ use Rattle.modifiers.specs.Lists.{entries}
 use Rattle.records.specs.Decorators.{spans_of}
 use Rattle.class.proofs.forms.read_constructor_or_other.Goals as goal
 
-pub returns-then-is-constructor : goal.returns-then-is-constructor
+pub returns-then-is_constructor : goal.returns-then-is_constructor
 unfolding constructor_or_other_d
-returns-then-is-constructor g c = record { spoke = test_true _ _ _ (sym c.if-is-constructor.ensures) (eat_yes _ _ _ refl refl c.take.ensures (spoke_as (ap (λ (n : ReadName). constructor_d c.args.is-ts c.args.context.now.bits (entries c.args.modifiers) (spans_of c.args.decorators) n) c.constructor-name.ensures) c.read-constructor.ensures)); context = refl }
+returns-then-is_constructor g c = record { spoke = test_true _ _ _ (sym c.if-is_constructor.ensures) (eat_yes _ _ _ refl refl c.take.ensures (spoke_as (ap (λ (n : ReadName). constructor_d c.args.is_ts c.args.context.now.bits (entries c.args.modifiers) (spans_of c.args.decorators) n) c.constructor_name.ensures) c.read_constructor.ensures)); context = refl }
 
 pub returns : goal.returns
 unfolding constructor_or_other_d
-returns g c = record { spoke = test_false _ _ _ (sym c.if-is-constructor.ensures) c.read-index-or-named.ensures.spoke; context = c.read-index-or-named.ensures.context }
+returns g c = record { spoke = test_false _ _ _ (sym c.if-is_constructor.ensures) c.read_index_or_named.ensures.spoke; context = c.read_index_or_named.ensures.context }

@@ -5,10 +5,10 @@ use Rattle.dialogue.proofs.Sequels.{then_spoke}
 use Rattle.dialogue.proofs.Steps.{index_spoke, test_false, test_true}
 use Rattle.class.proofs.forms.read_index_or_named.Goals as goal
 
-pub returns-then-starts-index : goal.returns-then-starts-index
+pub returns-then-starts_index : goal.returns-then-starts_index
 unfolding index_or_named_d
-returns-then-starts-index g c = record { spoke = index_spoke _ _ c.starts-index.ensures.value (test_true _ _ _ c.if-starts-index.true c.read-index.ensures); context = refl }
+returns-then-starts_index g c = record { spoke = index_spoke _ _ c.starts_index.ensures.value (test_true _ _ _ c.if-starts_index.true c.read_index.ensures); context = refl }
 
 pub returns : goal.returns
 unfolding index_or_named_d
-returns g c = record { spoke = index_spoke _ _ c.starts-index.ensures.value (test_false _ _ _ c.if-starts-index.false (then_spoke _ (element_checks_d _ _) (c.check-element.ensures _) c.read-named-form.ensures.spoke)); context = c.read-named-form.ensures.context }
+returns g c = record { spoke = index_spoke _ _ c.starts_index.ensures.value (test_false _ _ _ c.if-starts_index.false (then_spoke _ (element_checks_d _ _) (c.check_element.ensures _) c.read_named_form.ensures.spoke)); context = c.read_named_form.ensures.context }

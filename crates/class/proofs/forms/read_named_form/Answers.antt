@@ -5,14 +5,14 @@ use Rattle.dialogue.specs.declared.Fatal.TheVariants.{Unexpected}
 use Rattle.reports.specs.Reports.{at_place}
 use Rattle.class.proofs.forms.read_named_form.Goals as goal
 
-pub returns-then-not-starts-name : goal.returns-then-not-starts-name
+pub returns-then-not-starts_name : goal.returns-then-not-starts_name
 unfolding named_form_d
-returns-then-not-starts-name g c = record { spoke = look_spoke _ c.current-t.ensures.value (test_false _ _ _ (sym c.if-not-starts-name.ensures) (stop_spoke Unexpected _ refl (ap (at_place 51) c.place-at.ensures) c.note-fatal.ensures)); context = refl }
+returns-then-not-starts_name g c = record { spoke = look_spoke _ c.current-t.ensures.value (test_false _ _ _ (sym c.if-not-starts_name.ensures) (stop_spoke Unexpected _ refl (ap (at_place 51) c.place_at.ensures) c.note_fatal.ensures)); context = refl }
 
 pub returns-then-contains : goal.returns-then-contains
 unfolding named_form_d
-returns-then-contains g c = record { spoke = look_spoke _ c.current-t.ensures.value (test_true _ _ _ (sym c.if-not-starts-name.ensures) (test_true _ _ _ (sym c.if-contains.ensures) c.read-ambient.ensures.spoke)); context = c.read-ambient.ensures.context }
+returns-then-contains g c = record { spoke = look_spoke _ c.current-t.ensures.value (test_true _ _ _ (sym c.if-not-starts_name.ensures) (test_true _ _ _ (sym c.if-contains.ensures) c.read_ambient.ensures.spoke)); context = c.read_ambient.ensures.context }
 
 pub returns : goal.returns
 unfolding named_form_d
-returns g c = record { spoke = look_spoke _ c.current-t.ensures.value (test_true _ _ _ (sym c.if-not-starts-name.ensures) (test_false _ _ _ (sym c.if-contains.ensures) c.read-property-or-method.ensures.spoke)); context = c.read-property-or-method.ensures.context }
+returns g c = record { spoke = look_spoke _ c.current-t.ensures.value (test_true _ _ _ (sym c.if-not-starts_name.ensures) (test_false _ _ _ (sym c.if-contains.ensures) c.read_property_or_method.ensures.spoke)); context = c.read_property_or_method.ensures.context }

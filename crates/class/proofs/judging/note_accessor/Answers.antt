@@ -4,4 +4,4 @@ use Rattle.class.proofs.judging.note_accessor.Goals as goal
 
 pub returns : goal.returns
 unfolding accessor_reports
-returns c = noted_then c.note-method.ensures (noted_then c.note-parameters.ensures c.note-abstract.ensures)
+returns c = noted_then c.note_method.ensures (noted_then c.note_parameters.ensures c.note_abstract.ensures)

@@ -8,4 +8,4 @@ use Rattle.class.proofs.judging.note_constructor.Goals as goal
 
 pub returns : goal.returns
 unfolding constructor_reports
-returns c = noted_then c.note-method.ensures (noted_then c.note-at.ensures (noted_as (ap (λ (p : Option Span). report_at 48 p) c.type-in.ensures) c.note-at-2.ensures))
+returns c = noted_then c.note_method.ensures (noted_then c.note_at.ensures (noted_as (ap (λ (p : Option Span). report_at 48 p) c.type_in.ensures) c.note_at-2.ensures))

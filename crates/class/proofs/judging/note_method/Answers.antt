@@ -8,5 +8,5 @@ use Rattle.class.proofs.judging.note_method.Goals as goal
 pub returns : goal.returns
 unfolding method_reports
 returns c =
-    noted_then (noted_as (ap (λ (b : Bool). report_if b 29 c.args.m.name.span) (c.both.ensures ∙ ap (λ (b : Bool). c.args.m.is_abstract && b) c.is-private.ensures)) c.note-if.ensures)
-    (noted_then c.note-prop-name.ensures c.note-body.ensures)
+    noted_then (noted_as (ap (λ (b : Bool). report_if b 29 c.args.m.name.span) (c.both.ensures ∙ ap (λ (b : Bool). c.args.m.is_abstract && b) c.is_private.ensures)) c.note_if.ensures)
+    (noted_then c.note_prop_name.ensures c.note_body.ensures)

@@ -4,4 +4,4 @@ use Rattle.class.proofs.judging.note_plain.Goals as goal
 
 pub returns : goal.returns
 unfolding plain_reports
-returns c = noted_then c.note-method.ensures c.note-abstract.ensures
+returns c = noted_then c.note_method.ensures c.note_abstract.ensures

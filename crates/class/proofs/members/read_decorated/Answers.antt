@@ -5,8 +5,8 @@ use Rattle.class.proofs.members.read_decorated.Goals as goal
 
 pub returns-in-Ok : goal.returns-in-Ok
 unfolding decorated_d
-returns-in-Ok g c = record { spoke = keywords_spoke _ _ c.parse-modifiers-modifiers.ensures.read (then_spoke _ (form_d _ _ _ _) c.in-Ok.ensures.spoke c.end-member.ensures); context = c.in-Ok.ensures.context }
+returns-in-Ok g c = record { spoke = keywords_spoke _ _ c.parse_modifiers-modifiers.ensures.read (then_spoke _ (form_d _ _ _ _) c.in-Ok.ensures.spoke c.end_member.ensures); context = c.in-Ok.ensures.context }
 
 pub returns-in-Err : goal.returns-in-Err
 unfolding decorated_d
-returns-in-Err g c = record { spoke = keywords_spoke _ _ c.parse-modifiers-modifiers.ensures.read (then_stopped _ (form_d _ _ _ _) c.in-Err.ensures.spoke); context = c.in-Err.ensures.context }
+returns-in-Err g c = record { spoke = keywords_spoke _ _ c.parse_modifiers-modifiers.ensures.read (then_stopped _ (form_d _ _ _ _) c.in-Err.ensures.spoke); context = c.in-Err.ensures.context }

@@ -9,12 +9,12 @@ use Rattle.class.proofs.members.read_member.Goals as goal
 
 pub returns-then-is : goal.returns-then-is
 unfolding member_d
-returns-then-is g c = record { spoke = semicolons_spoke _ c.skip-semicolons.ensures (look_spoke _ c.current-t.ensures.value (test_true _ _ _ (sym c.if-is.ensures) (done_is refl))); context = refl }
+returns-then-is g c = record { spoke = semicolons_spoke _ c.skip_semicolons.ensures (look_spoke _ c.current-t.ensures.value (test_true _ _ _ (sym c.if-is.ensures) (done_is refl))); context = refl }
 
 pub returns-in-Ok : goal.returns-in-Ok
 unfolding member_d
-returns-in-Ok g c = record { spoke = semicolons_spoke _ c.skip-semicolons.ensures (look_spoke _ c.current-t.ensures.value (test_false _ _ _ (sym c.if-is.ensures) (then_spoke _ (decorators_d _ 16 []) (spoke_as (ap (λ (ds : List Span). decorators_d c.args.context.now.bits 16 ds) c.none.ensures) c.in-Ok.ensures) c.read-decorated.ensures.spoke))); context = c.read-decorated.ensures.context }
+returns-in-Ok g c = record { spoke = semicolons_spoke _ c.skip_semicolons.ensures (look_spoke _ c.current-t.ensures.value (test_false _ _ _ (sym c.if-is.ensures) (then_spoke _ (decorators_d _ 16 []) (spoke_as (ap (λ (ds : List Span). decorators_d c.args.context.now.bits 16 ds) c.none.ensures) c.in-Ok.ensures) c.read_decorated.ensures.spoke))); context = c.read_decorated.ensures.context }
 
 pub returns-in-Err : goal.returns-in-Err
 unfolding member_d
-returns-in-Err g c = record { spoke = semicolons_spoke _ c.skip-semicolons.ensures (look_spoke _ c.current-t.ensures.value (test_false _ _ _ (sym c.if-is.ensures) (then_stopped _ (decorators_d _ 16 []) (spoke_as (ap (λ (ds : List Span). decorators_d c.args.context.now.bits 16 ds) c.none.ensures) c.in-Err.ensures)))); context = refl }
+returns-in-Err g c = record { spoke = semicolons_spoke _ c.skip_semicolons.ensures (look_spoke _ c.current-t.ensures.value (test_false _ _ _ (sym c.if-is.ensures) (then_stopped _ (decorators_d _ 16 []) (spoke_as (ap (λ (ds : List Span). decorators_d c.args.context.now.bits 16 ds) c.none.ensures) c.in-Err.ensures)))); context = refl }

@@ -5,7 +5,7 @@ use Rattle.class.proofs.methods.read_accessor_rest.Goals as goal
 
 pub returns-in-Ok : goal.returns-in-Ok
 unfolding accessor_rest_d
-returns-in-Ok g c = then_spoke _ (method_d _) c.in-Ok.ensures (c.end-accessor.ensures _)
+returns-in-Ok g c = then_spoke _ (method_d _) c.in-Ok.ensures (c.end_accessor.ensures _)
 
 pub returns-in-Err : goal.returns-in-Err
 unfolding accessor_rest_d

@@ -7,5 +7,5 @@ use Rattle.class.proofs.methods.read_constructor.Goals as goal
 pub returns : goal.returns
 unfolding constructor_d
 returns g c =
-    note_spoke _ _ refl c.note-decorators.ensures
-    (then_spoke _ (element_checks_d _ _) (c.check-element.ensures _) (check_spoke _ _ _ c.run-check.ensures (check_spoke _ _ _ c.run-check-2.ensures c.read-constructor-rest.ensures)))
+    note_spoke _ _ refl c.note_decorators.ensures
+    (then_spoke _ (element_checks_d _ _) (c.check_element.ensures _) (check_spoke _ _ _ c.run_check.ensures (check_spoke _ _ _ c.run_check-2.ensures c.read_constructor_rest.ensures)))

@@ -5,7 +5,7 @@ use Rattle.class.proofs.methods.read_constructor_rest.Goals as goal
 
 pub returns-in-Ok : goal.returns-in-Ok
 unfolding constructor_rest_d
-returns-in-Ok g c = then_spoke _ (method_d _) c.in-Ok.ensures (c.end-constructor.ensures _)
+returns-in-Ok g c = then_spoke _ (method_d _) c.in-Ok.ensures (c.end_constructor.ensures _)
 
 pub returns-in-Err : goal.returns-in-Err
 unfolding constructor_rest_d

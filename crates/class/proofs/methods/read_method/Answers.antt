@@ -6,8 +6,8 @@ use Rattle.class.proofs.methods.read_method.Goals as goal
 
 pub returns-in-Ok : goal.returns-in-Ok
 unfolding method_form_d
-returns-in-Ok g c = check_spoke _ _ _ c.run-check.ensures (then_spoke _ (method_d _) c.in-Ok.ensures (c.end-method.ensures _))
+returns-in-Ok g c = check_spoke _ _ _ c.run_check.ensures (then_spoke _ (method_d _) c.in-Ok.ensures (c.end_method.ensures _))
 
 pub returns-in-Err : goal.returns-in-Err
 unfolding method_form_d
-returns-in-Err g c = check_spoke _ _ _ c.run-check.ensures (then_stopped _ (method_d _) c.in-Err.ensures)
+returns-in-Err g c = check_spoke _ _ _ c.run_check.ensures (then_stopped _ (method_d _) c.in-Err.ensures)

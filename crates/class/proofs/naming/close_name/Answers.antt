@@ -8,8 +8,8 @@ use Rattle.class.proofs.naming.close_name.Goals as goal
 
 pub returns-then-is : goal.returns-then-is
 unfolding closed_d
-returns-then-is g c = eat_yes _ _ _ c.current-t.ensures.value (sym c.if-is.ensures) c.take.ensures (done_is c.name-at.ensures)
+returns-then-is g c = eat_yes _ _ _ c.current-t.ensures.value (sym c.if-is.ensures) c.take.ensures (done_is c.name_at.ensures)
 
 pub returns : goal.returns
 unfolding closed_d
-returns g c = eat_no _ _ _ c.current-t.ensures.value (sym c.if-is.ensures) (stop_spoke ExpectToken _ refl (ap (at_place 49) c.place-at.ensures) c.note-fatal.ensures)
+returns g c = eat_no _ _ _ c.current-t.ensures.value (sym c.if-is.ensures) (stop_spoke ExpectToken _ refl (ap (at_place 49) c.place_at.ensures) c.note_fatal.ensures)

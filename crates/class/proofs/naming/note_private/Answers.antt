@@ -9,4 +9,4 @@ use Rattle.class.proofs.naming.note_private.Goals as goal
 
 pub returns : goal.returns
 unfolding private_name_d
-returns c = λ s. note_spoke _ _ (ap (λ (p : Span). report_if (eqb c.args.t.name 1) 20 p) c.place-at-place.ensures) c.note-if.ensures (done_is (c.name-at.ensures ∙ ap (λ (p : Span). named Private p 0) c.place-at-place.ensures))
+returns c = λ s. note_spoke _ _ (ap (λ (p : Span). report_if (eqb c.args.t.name 1) 20 p) c.place_at-place.ensures) c.note_if.ensures (done_is (c.name_at.ensures ∙ ap (λ (p : Span). named Private p 0) c.place_at-place.ensures))

@@ -6,7 +6,7 @@ use Rattle.class.proofs.naming.read_computed.Goals as goal
 
 pub returns-in-Ok : goal.returns-in-Ok
 unfolding computed_d
-returns-in-Ok g c = record { spoke = then_spoke closed_d (part_d Expression _) c.in-Ok.ensures.spoke c.close-name.ensures; context = c.in-Ok.ensures.context }
+returns-in-Ok g c = record { spoke = then_spoke closed_d (part_d Expression _) c.in-Ok.ensures.spoke c.close_name.ensures; context = c.in-Ok.ensures.context }
 
 pub returns-in-Err : goal.returns-in-Err
 unfolding computed_d

@@ -5,8 +5,8 @@ use Rattle.class.proofs.naming.read_name.Goals as goal
 
 pub returns-then-is : goal.returns-then-is
 unfolding name_d
-returns-then-is g c = record { spoke = check_spoke _ _ _ c.run-check.ensures (eat_yes _ _ _ c.current-t.ensures.value (sym c.if-is.ensures) c.take.ensures (c.check-private.ensures _)); context = refl }
+returns-then-is g c = record { spoke = check_spoke _ _ _ c.run_check.ensures (eat_yes _ _ _ c.current-t.ensures.value (sym c.if-is.ensures) c.take.ensures (c.check_private.ensures _)); context = refl }
 
 pub returns : goal.returns
 unfolding name_d
-returns g c = record { spoke = check_spoke _ _ _ c.run-check.ensures (eat_no _ _ _ c.current-t.ensures.value (sym c.if-is.ensures) c.read-property-name.ensures.spoke); context = c.read-property-name.ensures.context }
+returns g c = record { spoke = check_spoke _ _ _ c.run_check.ensures (eat_no _ _ _ c.current-t.ensures.value (sym c.if-is.ensures) c.read_property_name.ensures.spoke); context = c.read_property_name.ensures.context }

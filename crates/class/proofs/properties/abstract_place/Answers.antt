@@ -8,10 +8,10 @@ use Rattle.modifiers.proofs.Laws.{entries_fit}
 use Rattle.modifiers.specs.Entries.{end_of}
 use Rattle.class.proofs.properties.abstract_place.Goals as goal
 
-pub returns-in-default-end : goal.returns-in-default-end
-returns-in-default-end c =
+pub returns-in_default-end : goal.returns-in_default-end
+returns-in_default-end c =
     let f = entry_fits Abstract (entries c.args.modifiers) c.in-Some.word (entries_fit c.args.modifiers) c.in-Some.ensures in
-    let p : None ≡ Some (end_of c.in-Some.word) = c.in-default-end.ensures ∙ ap (λ (b : Bool). cond b (Some (end_of c.in-Some.word)) None) f in
+    let p : None ≡ Some (end_of c.in-Some.word) = c.in_default-end.ensures ∙ ap (λ (b : Bool). cond b (Some (end_of c.in-Some.word)) None) f in
     let z : ◌≡◌ {A = ℕ} 0 1 = cc in absurd (omega arith)
 
 pub returns : goal.returns

@@ -5,7 +5,7 @@ use Rattle.class.proofs.properties.close_accessor_property.Goals as goal
 
 pub returns-in-Ok : goal.returns-in-Ok
 unfolding accessor_property_close_d
-returns-in-Ok g c = then_spoke _ inserted_d c.in-Ok.ensures (c.end-accessor-property.ensures _)
+returns-in-Ok g c = then_spoke _ inserted_d c.in-Ok.ensures (c.end_accessor_property.ensures _)
 
 pub returns-in-Err : goal.returns-in-Err
 unfolding accessor_property_close_d

@@ -5,7 +5,7 @@ use Rattle.class.proofs.properties.close_property.Goals as goal
 
 pub returns-in-Ok : goal.returns-in-Ok
 unfolding property_close_d
-returns-in-Ok g c = then_spoke _ semicolon_d c.in-Ok.ensures (c.end-property.ensures _)
+returns-in-Ok g c = then_spoke _ semicolon_d c.in-Ok.ensures (c.end_property.ensures _)
 
 pub returns-in-Err : goal.returns-in-Err
 unfolding property_close_d

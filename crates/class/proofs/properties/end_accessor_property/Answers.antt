@@ -9,6 +9,6 @@ pub returns : goal.returns
 unfolding accessor_property_end_d
 returns c = λ s.
     let u = c.unless.ensures ∙ ap (λ (b : Bool). cond b None c.args.bang) c.contains-declared.ensures in
-    check_spoke _ _ _ c.run-check.ensures
-    (note_spoke _ _ (λ i. accessor_property_reports (c.contains-ambient.ensures i) (u i) (c.accessor-of-a.ensures i)) c.note-accessor-property.ensures
-    (done_is (ap Accessor c.accessor-of-a.ensures)))
+    check_spoke _ _ _ c.run_check.ensures
+    (note_spoke _ _ (λ i. accessor_property_reports (c.contains-ambient.ensures i) (u i) (c.accessor_of-a.ensures i)) c.note_accessor_property.ensures
+    (done_is (ap Accessor c.accessor_of-a.ensures)))

@@ -7,5 +7,5 @@ use Rattle.class.proofs.properties.note_initializer.Goals as goal
 
 pub returns : goal.returns
 returns c =
-    noted_then (noted_as (ap (λ (b : Bool). report_if b 30 c.args.p.name.span) (c.both.ensures ∙ ap (λ (b : Bool). c.args.p.is_abstract && b) c.is-some.ensures)) c.note-if.ensures)
-    (noted_as (ap (λ (o : Option Span). report_at 31 o) (c.only-if.ensures ∙ ap (λ (b : Bool). cond b c.args.p.value None) c.is-banned.ensures)) c.note-at.ensures)
+    noted_then (noted_as (ap (λ (b : Bool). report_if b 30 c.args.p.name.span) (c.both.ensures ∙ ap (λ (b : Bool). c.args.p.is_abstract && b) c.is_some.ensures)) c.note_if.ensures)
+    (noted_as (ap (λ (o : Option Span). report_at 31 o) (c.only_if.ensures ∙ ap (λ (b : Bool). cond b c.args.p.value None) c.is_banned.ensures)) c.note_at.ensures)

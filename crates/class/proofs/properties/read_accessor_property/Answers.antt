@@ -4,7 +4,7 @@ use Rattle.class.proofs.properties.read_accessor_property.Goals as goal
 
 pub returns-in-Ok : goal.returns-in-Ok
 unfolding accessor_property_d
-returns-in-Ok g c = record { spoke = then_spoke _ (typed_d _ _) c.in-Ok.ensures.spoke c.close-accessor-property.ensures; context = c.in-Ok.ensures.context }
+returns-in-Ok g c = record { spoke = then_spoke _ (typed_d _ _) c.in-Ok.ensures.spoke c.close_accessor_property.ensures; context = c.in-Ok.ensures.context }
 
 pub returns-in-Err : goal.returns-in-Err
 unfolding accessor_property_d

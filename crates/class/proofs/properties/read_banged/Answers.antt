@@ -7,8 +7,8 @@ use Rattle.class.proofs.properties.read_banged.Goals as goal
 
 pub returns-then-contains : goal.returns-then-contains
 unfolding banged_d
-returns-then-contains g c = record { spoke = note_spoke _ _ (ap (λ (o : Option Span). report_at 24 o) c.join.ensures) c.note-at.ensures (test_true _ _ _ (sym c.if-contains.ensures) c.read-accessor-named.ensures.spoke); context = c.read-accessor-named.ensures.context }
+returns-then-contains g c = record { spoke = note_spoke _ _ (ap (λ (o : Option Span). report_at 24 o) c.join.ensures) c.note_at.ensures (test_true _ _ _ (sym c.if-contains.ensures) c.read_accessor_named.ensures.spoke); context = c.read_accessor_named.ensures.context }
 
 pub returns : goal.returns
 unfolding banged_d
-returns g c = record { spoke = note_spoke _ _ (ap (λ (o : Option Span). report_at 24 o) c.join.ensures) c.note-at.ensures (test_false _ _ _ (sym c.if-contains.ensures) c.read-property.ensures.spoke); context = c.read-property.ensures.context }
+returns g c = record { spoke = note_spoke _ _ (ap (λ (o : Option Span). report_at 24 o) c.join.ensures) c.note_at.ensures (test_false _ _ _ (sym c.if-contains.ensures) c.read_property.ensures.spoke); context = c.read_property.ensures.context }

@@ -6,10 +6,10 @@ use Rattle.dialogue.proofs.Steps.{look_spoke, test_false, test_true}
 use Rattle.modifiers.specs.Lists.{entries}
 use Rattle.class.proofs.properties.read_choice.Goals as goal
 
-pub returns-then-is-method : goal.returns-then-is-method
+pub returns-then-is_method : goal.returns-then-is_method
 unfolding choice_d
-returns-then-is-method g c = record { spoke = look_spoke _ c.current.ensures.value (test_true _ _ _ (sym c.if-is-method.ensures) (spoke_as (ap (λ (b : Bool). method_form_d c.args.context.now.bits (entries c.args.modifiers) b c.args.generator c.args.name) c.is-some.ensures) c.read-method.ensures)); context = refl }
+returns-then-is_method g c = record { spoke = look_spoke _ c.current.ensures.value (test_true _ _ _ (sym c.if-is_method.ensures) (spoke_as (ap (λ (b : Bool). method_form_d c.args.context.now.bits (entries c.args.modifiers) b c.args.generator c.args.name) c.is_some.ensures) c.read_method.ensures)); context = refl }
 
 pub returns : goal.returns
 unfolding choice_d
-returns g c = record { spoke = look_spoke _ c.current.ensures.value (test_false _ _ _ (sym c.if-is-method.ensures) c.read-definite.ensures.spoke); context = c.read-definite.ensures.context }
+returns g c = record { spoke = look_spoke _ c.current.ensures.value (test_false _ _ _ (sym c.if-is_method.ensures) c.read_definite.ensures.spoke); context = c.read_definite.ensures.context }

@@ -5,4 +5,4 @@ use Rattle.class.proofs.properties.read_definite.Goals as goal
 
 pub returns : goal.returns
 unfolding definite_d
-returns g c = record { spoke = then_spoke _ (optional_d _) (c.optional-bang.ensures _) c.read-banged.ensures.spoke; context = c.read-banged.ensures.context }
+returns g c = record { spoke = then_spoke _ (optional_d _) (c.optional-bang.ensures _) c.read_banged.ensures.spoke; context = c.read_banged.ensures.context }

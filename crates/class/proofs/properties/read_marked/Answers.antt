@@ -5,4 +5,4 @@ use Rattle.class.proofs.properties.read_marked.Goals as goal
 
 pub returns : goal.returns
 unfolding marked_d
-returns g c = record { spoke = then_spoke _ (question_d _) (c.take-question-question.ensures _) c.read-choice.ensures.spoke; context = c.read-choice.ensures.context }
+returns g c = record { spoke = then_spoke _ (question_d _) (c.take_question-question.ensures _) c.read_choice.ensures.spoke; context = c.read_choice.ensures.context }

@@ -4,7 +4,7 @@ use Rattle.class.proofs.properties.read_property.Goals as goal
 
 pub returns-in-Ok : goal.returns-in-Ok
 unfolding property_d
-returns-in-Ok g c = record { spoke = then_spoke _ (typed_d _ _) c.in-Ok.ensures.spoke c.close-property.ensures; context = c.in-Ok.ensures.context }
+returns-in-Ok g c = record { spoke = then_spoke _ (typed_d _ _) c.in-Ok.ensures.spoke c.close_property.ensures; context = c.in-Ok.ensures.context }
 
 pub returns-in-Err : goal.returns-in-Err
 unfolding property_d

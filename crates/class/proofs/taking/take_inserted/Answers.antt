@@ -9,10 +9,10 @@ pub returns-then-is : goal.returns-then-is
 unfolding inserted_d
 returns-then-is g c = eat_yes _ _ _ c.current-t.ensures.value (sym c.if-is.ensures) c.take.ensures (done_is refl)
 
-pub returns-then-can-insert : goal.returns-then-can-insert
+pub returns-then-can_insert : goal.returns-then-can_insert
 unfolding inserted_d
-returns-then-can-insert g c = eat_no _ _ _ c.current-t.ensures.value (sym c.if-is.ensures) (test_true _ _ _ (sym c.if-can-insert.ensures) (done_is refl))
+returns-then-can_insert g c = eat_no _ _ _ c.current-t.ensures.value (sym c.if-is.ensures) (test_true _ _ _ (sym c.if-can_insert.ensures) (done_is refl))
 
 pub returns : goal.returns
 unfolding inserted_d
-returns g c = eat_no _ _ _ c.current-t.ensures.value (sym c.if-is.ensures) (test_false _ _ _ (sym c.if-can-insert.ensures) (last_spoke _ c.last-end-end.ensures.value (stop_spoke AutoSemicolonInsertion _ refl refl c.note-fatal.ensures)))
+returns g c = eat_no _ _ _ c.current-t.ensures.value (sym c.if-is.ensures) (test_false _ _ _ (sym c.if-can_insert.ensures) (last_spoke _ c.last_end-end.ensures.value (stop_spoke AutoSemicolonInsertion _ refl refl c.note_fatal.ensures)))

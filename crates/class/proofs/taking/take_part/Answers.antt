@@ -11,4 +11,4 @@ returns-in-Ok g c = part_spoke _ _ _ c.in-Ok.ensures.value c.in-Ok.ensures.after
 
 pub returns-in-Err : goal.returns-in-Err
 unfolding part_d
-returns-in-Err g c = part_spoke _ _ _ c.in-Err.ensures.value c.in-Err.ensures.after (stop_spoke Unexpected c.in-Err.place refl refl c.note-fatal.ensures)
+returns-in-Err g c = part_spoke _ _ _ c.in-Err.ensures.value c.in-Err.ensures.after (stop_spoke Unexpected c.in-Err.place refl refl c.note_fatal.ensures)

@@ -6,14 +6,14 @@ use Rattle.dialogue.proofs.Steps.{look_spoke, test_false, test_true}
 use Rattle.parts.specs.declared.Part.TheVariants.{TypeAnnotation}
 use Rattle.class.proofs.taking.take_type.Goals as goal
 
-pub returns-then-not-is-annotated : goal.returns-then-not-is-annotated
+pub returns-then-not-is_annotated : goal.returns-then-not-is_annotated
 unfolding type_d
-returns-then-not-is-annotated g c = look_spoke _ c.current.ensures.value (test_false _ _ _ (sym c.if-not-is-annotated.ensures) (done_is refl))
+returns-then-not-is_annotated g c = look_spoke _ c.current.ensures.value (test_false _ _ _ (sym c.if-not-is_annotated.ensures) (done_is refl))
 
 pub returns-in-Ok : goal.returns-in-Ok
 unfolding type_d
-returns-in-Ok g c = look_spoke _ c.current.ensures.value (test_true _ _ _ (sym c.if-not-is-annotated.ensures) (then_spoke _ (part_d TypeAnnotation c.args.context.bits) c.in-Ok.ensures (done_is refl)))
+returns-in-Ok g c = look_spoke _ c.current.ensures.value (test_true _ _ _ (sym c.if-not-is_annotated.ensures) (then_spoke _ (part_d TypeAnnotation c.args.context.bits) c.in-Ok.ensures (done_is refl)))
 
 pub returns-in-Err : goal.returns-in-Err
 unfolding type_d
-returns-in-Err g c = look_spoke _ c.current.ensures.value (test_true _ _ _ (sym c.if-not-is-annotated.ensures) (then_stopped _ (part_d TypeAnnotation c.args.context.bits) c.in-Err.ensures))
+returns-in-Err g c = look_spoke _ c.current.ensures.value (test_true _ _ _ (sym c.if-not-is_annotated.ensures) (then_stopped _ (part_d TypeAnnotation c.args.context.bits) c.in-Err.ensures))

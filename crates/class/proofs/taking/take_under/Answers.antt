@@ -7,6 +7,6 @@ use Rattle.class.proofs.taking.take_under.Goals as goal
 pub returns : goal.returns
 returns g c =
     record {
-      spoke = under (part_d c.args.part) (ap (λ (k : Context). k.bits) c.current.ensures ∙ c.within-guard.ensures.changed) c.take-part.ensures;
+      spoke = under (part_d c.args.part) (ap (λ (k : Context). k.bits) c.current.ensures ∙ c.within-guard.ensures.changed) c.take_part.ensures;
       context = search rules;
     }

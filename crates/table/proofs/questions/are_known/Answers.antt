@@ -5,8 +5,8 @@ use Rattle.reader.specs.Sound.{all_known}
 use Rattle.table.proofs.Walking.{known_more}
 use Rattle.table.proofs.questions.are_known.Goals as goal
 
-pub returns-then-not-is-known : goal.returns-then-not-is-known
-returns-then-not-is-known c =
+pub returns-then-not-is_known : goal.returns-then-not-is_known
+returns-then-not-is_known c =
     let e = known_more c.args.ts.now c.loop-t.t-index (omega arith) in grind (arith, nat_tests)
 
 pub loop-t-preserved : goal.loop-t-preserved

@@ -5,12 +5,12 @@ use Rattle.reader.specs.Sound.{all_placed}
 use Rattle.table.proofs.Walking.{placed_more}
 use Rattle.table.proofs.questions.are_placed.Goals as goal
 
-pub returns-then-not-is-sized : goal.returns-then-not-is-sized
-returns-then-not-is-sized c =
+pub returns-then-not-is_sized : goal.returns-then-not-is_sized
+returns-then-not-is_sized c =
     let e = placed_more c.args.ts.now c.loop-i.i (omega arith) in grind (arith, nat_tests)
 
-pub returns-then-not-is-before-next : goal.returns-then-not-is-before-next
-returns-then-not-is-before-next c =
+pub returns-then-not-is_before_next : goal.returns-then-not-is_before_next
+returns-then-not-is_before_next c =
     let e = placed_more c.args.ts.now c.loop-i.i (omega arith) in grind (arith, nat_tests)
 
 pub loop-i-preserved : goal.loop-i-preserved

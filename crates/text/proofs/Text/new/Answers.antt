@@ -11,9 +11,9 @@ use Rattle.text.proofs.Text.new.Goals as goal
 pub returns : goal.returns
 returns c =
     let bs = c.args.text.now in
-    let e : held_tokens c.token-at-current.result bs ≡ lexed bs = ap (λ u. held_tokens u bs) c.token-at-current.ensures ∙ held_at 0 bs in
-    let n = some_number c.refusal-of-refused.result in
+    let e : held_tokens c.token_at-current.result bs ≡ lexed bs = ap (λ u. held_tokens u bs) c.token_at-current.ensures ∙ held_at 0 bs in
+    let n = some_number c.refusal_of-refused.result in
     let z : is_some (first_no (text_questions bs)) ≡ false = cc in
     let m : lexed bs ≡ text_meaning bs = rw z in
     let P : List Token → Type 0 = λ l. sound l ≡ true in
-    record { refused = c.refusal-of-refused.ensures; tokens = e ∙ m; last = refl; sound = subst P (sym e) (lexed_sound bs) }
+    record { refused = c.refusal_of-refused.ensures; tokens = e ∙ m; last = refl; sound = subst P (sym e) (lexed_sound bs) }

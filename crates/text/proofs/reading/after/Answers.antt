@@ -8,4 +8,4 @@ pub returns-else-t-eq-EOF : goal.returns-else-t-eq-EOF
 returns-else-t-eq-EOF c =
     let t = c.args.t in
     let bs = c.args.text.now in
-    ap (λ u. held_tokens u bs) c.token-at.ensures ∙ held_at t.end bs ∙ held_next t bs (grind (arith, nat_tests))
+    ap (λ u. held_tokens u bs) c.token_at.ensures ∙ held_at t.end bs ∙ held_next t bs (grind (arith, nat_tests))

@@ -10,8 +10,8 @@ use Rattle.trivia.proofs.Trivia.new.Goals as goal
 pub returns : goal.returns
 returns g c =
     let ts = g.R.TokenReader.tokens c.args.below in
-    let rest = without_skips false (g.R.TokenReader.tokens c.next-kept-fourth.new.below) in
-    let e : closed (c.next-kept-first.result ∷ (c.next-kept-second.result ∷ (c.next-kept-third.result ∷ (c.next-kept-fourth.result ∷ rest)))) ≡ closed (without_skips false ts) = search rules in
+    let rest = without_skips false (g.R.TokenReader.tokens c.next_kept-fourth.new.below) in
+    let e : closed (c.next_kept-first.result ∷ (c.next_kept-second.result ∷ (c.next_kept-third.result ∷ (c.next_kept-fourth.result ∷ rest)))) ≡ closed (without_skips false ts) = search rules in
     let P : List Token → Type 0 = λ l. sound l ≡ true in
     record {
       tokens = e;

@@ -11,8 +11,8 @@ pub returns-then-h-ne-EOF : goal.returns-then-h-ne-EOF
 returns-then-h-ne-EOF g c =
     let s = c.args.self.now in
     let ts : List Token = trivia_tokens g.R.TokenReader.tokens s in
-    let rest = without_skips false (g.R.TokenReader.tokens c.next-kept-fourth.new.below) in
-    let e : closed (get_or s.held 1 eof0 ∷ (get_or s.held 2 eof0 ∷ (get_or s.held 3 eof0 ∷ (c.next-kept-fourth.result ∷ rest)))) ≡ next ts = search rules in
+    let rest = without_skips false (g.R.TokenReader.tokens c.next_kept-fourth.new.below) in
+    let e : closed (get_or s.held 1 eof0 ∷ (get_or s.held 2 eof0 ∷ (get_or s.held 3 eof0 ∷ (c.next_kept-fourth.result ∷ rest)))) ≡ next ts = search rules in
     record {
       tokens = e;
       last = search rules;

@@ -8,7 +8,7 @@ use Rattle.verdicts.proofs.tables.row.Goals as goal
 pub returns : goal.returns
 returns c =
     let bits : c.in-Some.kinds.bits ≡ packed (forbidden_before c.args.later) =
-    c.in-Some.ensures ∙ c.bits-at.ensures
+    c.in-Some.ensures ∙ c.bits_at.ensures
     ∙ ap (λ n. packed (forbidden_before (kind_at n))) c.number.ensures
     ∙ ap (λ k. packed (forbidden_before k)) (numbers c.args.later).0
     in

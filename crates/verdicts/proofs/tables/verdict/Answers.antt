@@ -5,6 +5,6 @@ use Rattle.verdicts.proofs.tables.verdict.Goals as goal
 
 pub returns : goal.returns
 returns c =
-    c.verdict-at.ensures
+    c.verdict_at.ensures
     ∙ ap₂ (λ t e. verdict_of (kind_at t) (kind_at e)) c.number.ensures c.number-2.ensures
     ∙ ap₂ verdict_of (numbers c.args.later).0 (numbers c.args.earlier).0

@@ -8,7 +8,7 @@ returns c =
     let set = c.args.self in
     record {
       holds = λ t.
-          let m = c.has-any-not-in.ensures.holds t in
+          let m = c.has_any_not_in.ensures.holds t in
           modifier_in set.bits c.args.other.bits m.0 false set.ok m.1 m.2;
-      fails = λ e k. c.has-any-not-in.ensures.fails e (modifier_number k);
+      fails = λ e k. c.has_any_not_in.ensures.fails e (modifier_number k);
     }

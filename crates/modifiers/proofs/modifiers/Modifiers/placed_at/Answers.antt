@@ -7,8 +7,8 @@ use Rattle.modifiers.proofs.Laws.{entries_fit}
 use Rattle.modifiers.proofs.modifiers.Modifiers.placed_at.Goals as goal
 
 -- What stands in the list ends within 32 bits.
-pub overflow-add-result : goal.overflow-add-result
-overflow-add-result c =
+pub overflow_add-result : goal.overflow_add-result
+overflow_add-result c =
     let m = c.in-Some.m in
     let found = sym c.in-Some.ensures in
     let low = ltb-true (end_of m) (2 ^ 32) (all_found fits (entries c.args.self) c.args.i m (entries_fit c.args.self) found) in

@@ -15,9 +15,9 @@ bounds-order-len c =
     room_left m.starts c.others-len.result.0 (take m.len m.order) c.others-len.result.1 c.number-n.result
     c.args.kind c.number-n.ensures (omega arith) rest.kept m.known m.once
 
-pub invariant-of-result : goal.invariant-of-result
+pub invariant_of-result : goal.invariant_of-result
 unfolding entries
-invariant-of-result c =
+invariant_of-result c =
     let m = c.args.self in
     let kind = c.args.kind in
     let one = word_at kind c.args.start in

@@ -8,7 +8,7 @@ use Rattle.table.proofs.table.Table.new.Goals as goal
 pub returns : goal.returns
 returns c =
     let ts = c.args.tokens.now in
-    let e = opened_tokens ts c.refusal-of-refused.result c.if-is-some.at c.refusal-of-refused.ensures (grind (arith, nat_tests)) in
+    let e = opened_tokens ts c.refusal_of-refused.result c.if-is_some.at c.refusal_of-refused.ensures (grind (arith, nat_tests)) in
     record {
       refused = search rules;
       tokens = e;

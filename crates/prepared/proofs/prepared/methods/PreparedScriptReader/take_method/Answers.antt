@@ -15,13 +15,13 @@ returns c =
     let rs = s.records.now in
     let ts = script_tokens s in
     let t = c.current.result in
-    let answer = c.method-answer-answer in
+    let answer = c.method_answer-answer in
     let told : Answer MethodFacts = method_in rs t s.left in
     let said : Answer MethodFacts = method_in rs (head ts) (length ts - 1) in
     let same : told ≡ said = method_here rs ts t s.left c.current.ensures.value s.counted in
     record {
       value = answer.ensures.result ∙ ap (λ (a : Answer MethodFacts). a.result) same;
-      after = past_by (script_scene s) (script_scene c.take-many.new.r) answer.result.count told said c.take-many.ensures.after answer.ensures.count same;
-      sound = c.take-many.ensures.sound;
+      after = past_by (script_scene s) (script_scene c.take_many.new.r) answer.result.count told said c.take_many.ensures.after answer.ensures.count same;
+      sound = c.take_many.ensures.sound;
       lawful = prepared_lawful rs;
     }

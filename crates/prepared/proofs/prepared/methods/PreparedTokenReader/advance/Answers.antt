@@ -4,15 +4,15 @@ use Rattle.table.specs.Means.{table_tokens}
 use Rattle.prepared.proofs.Counting.{next_fewer, next_last}
 use Rattle.prepared.proofs.prepared.methods.PreparedTokenReader.advance.Goals as goal
 
-pub invariant-of-self : goal.invariant-of-self
-invariant-of-self c =
+pub invariant_of-self : goal.invariant_of-self
+invariant_of-self c =
     let s = c.args.self.now in
     let all = s.counted in
     let e = next_fewer (table_tokens s.reader) (closed_ended (drop s.reader.at s.reader.tokens.now)) (omega arith) in
     (omega (arith, ap length c.advance.ensures.tokens), tt)
 
-pub invariant-of-self-else-self-gt0 : goal.invariant-of-self-else-self-gt0
-invariant-of-self-else-self-gt0 c =
+pub invariant_of-self-else-self-gt0 : goal.invariant_of-self-else-self-gt0
+invariant_of-self-else-self-gt0 c =
     let s = c.args.self.now in
     let all = s.counted in
     let e = next_last (table_tokens s.reader) (closed_ended (drop s.reader.at s.reader.tokens.now)) (omega arith) in

@@ -11,5 +11,5 @@ returns c =
       tokens = search rules;
       last = search rules;
       answers = refl;
-      sound = λ h. subst (λ (l : List Token). sound l ≡ true) (sym c.step-from-self.ensures) (next_sound (closed (drop c.args.self.now.at c.args.self.now.tokens.now)) h);
+      sound = λ h. subst (λ (l : List Token). sound l ≡ true) (sym c.step_from-self.ensures) (next_sound (closed (drop c.args.self.now.at c.args.self.now.tokens.now)) h);
     }
