@@ -2,7 +2,7 @@
 
 ghost use Rattle.std.specs.Prelude.{◌≡◌, length};
 ghost use Rattle.reader.specs.Scenes.{past, scene};
-ghost use Rattle.brackets.specs.Depth.{deeper as deeperAt, inside, opens as opens_at, up_to};
+ghost use Rattle.brackets.specs.Depth.{deeper as deeper_at, inside, opens as opens_at, up_to};
 ghost use Rattle.brackets.specs.Format.{ends_expression, ends_later, expression_of, group_of};
 ghost use Rattle.brackets.specs.Readings.{Answered};
 
@@ -19,7 +19,7 @@ fn opens(kind: u8) -> bool
 
 /// The depth after a token of this kind.
 pub fn deeper(depth: u32, kind: u8) -> u32
-    ensures { result ≡ deeperAt depth kind }
+    ensures { result ≡ deeper_at depth kind }
 {
     if opens(kind) {
         depth.saturating_add(1)

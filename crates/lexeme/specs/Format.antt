@@ -1,6 +1,6 @@
 -- The lexical format: the first lexeme of a text, by its bytes. Each sort of token has one definition, which
 -- `lexeme_of` chooses by the first byte.
-use Rattle.std.specs.Prelude.{ℕ, ◌+◌, Bool, false, cond, ◌&&◌, List, [], ◌∷◌, length, take, drop, codes, ◌==◌, nat_eq, nat_lt, slice_index, slice_index_or}
+use Rattle.std.specs.Prelude.{ℕ, ◌+◌, Bool, false, cond, ◌&&◌, List, [], ◌∷◌, length, take, drop, codes, ◌==◌, nat_lt, slice_index, slice_index_or}
 use Rattle.std.specs.Char.{is_ascii_digit}
 use Rattle.std.specs.List.{prefix_len}
 use Rattle.std.specs.Str.{bytes_eq}
@@ -94,8 +94,8 @@ abbrev pub punctuator_kind : ℕ → ℕ
 punctuator_kind b =
     cond (b == (byte "{")) k_lcurly
     (cond (b == (byte "}")) k_rcurly
-    (cond (nat_eq b (byte "(")) k_lparen
-    (cond ((b == (byte "))")) k_rparen
+    (cond (b == (byte "(")) k_lparen
+    (cond (b == (byte ")")) k_rparen
     (cond (b == (byte "[")) k_lbrack
     (cond (b == (byte "]")) k_rbrack
     (cond (b == (byte "<")) k_langle

@@ -1,7 +1,7 @@
 //! The sorts of tokens, each by a function of its own that is handed the text from where the sort is certain.
 
 ghost use Rattle.std.specs.Prelude.{◌≡◌, ◌≤◌, length};
-ghost use Rattle.lexeme.specs.Format.{before_close, blanks as blanksOf, block_comment, comment as commentOf, digits as digitsOf, dots as dotsOf, line_comment, name_code, plain as plain_of, private_name, punctuator_kind, string_literal, word as word_at};
+ghost use Rattle.lexeme.specs.Format.{before_close, blanks as blanks_of, block_comment, comment as comment_of, digits as digits_of, dots as dots_of, line_comment, name_code, plain as plain_of, private_name, punctuator_kind, string_literal, word as word_at};
 
 use crate::Lexeme;
 use crate::bytes::{Run, after_first, byte_at, holds_break, run_size, starts_name};
@@ -11,9 +11,9 @@ use token::kind;
 fn name_code(name: &[u8]) -> u8
     ensures { result ≡ name_code name.now }
 {
-    if name == b"constructor" {
+    if name == b"constructor".as_slice() {
         1
-    } else if name == b"prototype" {
+    } else if name == b"prototype".as_slice() {
         2
     } else {
         0
@@ -33,7 +33,7 @@ pub(crate) fn plain(kind: u8, size: usize) -> Lexeme
 }
 
 pub(crate) fn blanks(text: &[u8]) -> Lexeme
-    ensures { result ≡ blanksOf text.now }
+    ensures { result ≡ blanks_of text.now }
 {
     let n = run_size(Run::Blank, text);
     Lexeme {
@@ -58,7 +58,7 @@ pub(crate) fn word(text: &[u8]) -> Lexeme
 }
 
 pub(crate) fn digits(text: &[u8]) -> Lexeme
-    ensures { result ≡ digitsOf text.now }
+    ensures { result ≡ digits_of text.now }
 {
     plain(kind::DECIMAL, run_size(Run::Digit, text))
 }
@@ -135,7 +135,7 @@ fn block_comment(rest: &[u8]) -> Lexeme
 
 /// After `/`.
 pub(crate) fn comment(rest: &[u8]) -> Lexeme
-    ensures { result ≡ commentOf rest.now }
+    ensures { result ≡ comment_of rest.now }
 {
     match byte_at(rest, 0) {
         b'/' => line_comment(after_first(rest)),
@@ -146,7 +146,7 @@ pub(crate) fn comment(rest: &[u8]) -> Lexeme
 
 /// After `.`.
 pub(crate) fn dots(rest: &[u8]) -> Lexeme
-    ensures { result ≡ dotsOf rest.now }
+    ensures { result ≡ dots_of rest.now }
 {
     if byte_at(rest, 0) == b'.' && byte_at(rest, 1) == b'.' {
         plain(kind::DOT3, 3)

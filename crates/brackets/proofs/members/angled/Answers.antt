@@ -6,16 +6,16 @@ returns-in_err-left g c =
     let f = c.from_residual in
     refused_as f.result f.ensures.1 (stopped _ _ c.in_err-left.ensures)
 
-pub returns-in_err--word : goal.returns-in_err--word
-returns-in_err--word g c =
-    let f = c.from_residual-in_err--word in
-    refused_as f.result f.ensures.1 (followed _ _ c.in_ok-left.ensures (stopped _ _ c.in_err--word.ensures))
+pub returns-in_err-_word : goal.returns-in_err-_word
+returns-in_err-_word g c =
+    let f = c.from_residual-in_err-_word in
+    refused_as f.result f.ensures.1 (followed _ _ c.in_ok-left.ensures (stopped _ _ c.in_err-_word.ensures))
 
 pub returns-in_err-right : goal.returns-in_err-right
 returns-in_err-right g c =
     let f = c.from_residual-in_err-right in
-    refused_as f.result f.ensures.1 (followed _ _ c.in_ok-left.ensures (followed _ _ c.in_ok--word.ensures (stopped _ _ c.in_err-right.ensures)))
+    refused_as f.result f.ensures.1 (followed _ _ c.in_ok-left.ensures (followed _ _ c.in_ok-_word.ensures (stopped _ _ c.in_err-right.ensures)))
 
 pub returns : goal.returns
 returns g c =
-    followed _ _ c.in_ok-left.ensures (followed _ _ c.in_ok--word.ensures (followed _ _ c.in_ok-right.ensures (given _ _)))
+    followed _ _ c.in_ok-left.ensures (followed _ _ c.in_ok-_word.ensures (followed _ _ c.in_ok-right.ensures (given _ _)))

@@ -29,27 +29,18 @@ invariant_of-result c =
     let rest = c.others-len.ensures in
     let low = room_left m.starts c.others-len.result.0 xs w n kind e (omega arith) rest.kept m.known m.once in
     let new = order_listed m.starts c.others-len.result.0 xs w n c.args.start kind e (omega arith) (omega arith) rest.kept m.known in
-    let may = and_parts (above c.args.start old) (fits one) c.requires in (
-      omega arith,
-      (
-        order_known m.starts c.others-len.result.0 xs w n c.args.start kind e (omega arith) (omega arith) rest.kept m.known,
-        (
-          ap apart new ∙ apart_added old one m.once,
-          (
-            (λ k. c.with-kinds.ensures (modifier_number k) ∙ ap (λ b. same_kind kind k || b) (m.same k) ∙ sym (keeps_added k old one) ∙ sym (ap (keeps k) new)),
-            (
-              ap ascending new ∙ rising_added old one m.rising may.0,
-              (
-                (λ k f.
-                    let fs = or_parts (same_kind kind k) _ (sym (c.with-kinds.ensures (modifier_number k)) ∙ f) in
-                    blank_moved m.starts n c.args.start kind k e fs.0 (m.blank k fs.1)),
-                (ap (list_all fits) new ∙ all_one_more fits (without kind old) one (all_left fits kind old m.within) may.1, tt),
-              ),
-            ),
-          ),
-        ),
-      ),
-    )
+    let may = and_parts (above c.args.start old) (fits one) c.requires in
+    record {
+      few = omega arith;
+      known = order_known m.starts c.others-len.result.0 xs w n c.args.start kind e (omega arith) (omega arith) rest.kept m.known;
+      once = ap apart new ∙ apart_added old one m.once;
+      same = λ k. c.with-kinds.ensures (modifier_number k) ∙ ap (λ b. same_kind kind k || b) (m.same k) ∙ sym (keeps_added k old one) ∙ sym (ap (keeps k) new);
+      rising = ap ascending new ∙ rising_added old one m.rising may.0;
+      blank = λ k f.
+          let fs = or_parts (same_kind kind k) _ (sym (c.with-kinds.ensures (modifier_number k)) ∙ f) in
+          blank_moved m.starts n c.args.start kind k e fs.0 (m.blank k fs.1);
+      within = ap (list_all fits) new ∙ all_one_more fits (without kind old) one (all_left fits kind old m.within) may.1;
+    }
 
 pub returns : goal.returns
 unfolding entries

@@ -12,13 +12,13 @@ loop-i-preserved c =
     let room : c.loop-i.count < length c.loop-i.order = omega arith in
     elim c.if-x-n.branch [
       | then-x-n w ↦
-          simp (w.order-is, w.count_is) (
+          simp (w.order-is, w.count-is) (
             simp length-set c.loop-i.invariant.0,
             omega arith,
             step_other n from c.loop-i.order i c.loop-i.count inside room w.if-x-n.true c.loop-i.invariant.2,
           )
       | else-x-n w ↦
-          simp (w.order-is, w.count_is) (
+          simp (w.order-is, w.count-is) (
             c.loop-i.invariant.0,
             omega arith,
             step_same n from c.loop-i.order i c.loop-i.count inside w.if-x-n.false c.loop-i.invariant.2,

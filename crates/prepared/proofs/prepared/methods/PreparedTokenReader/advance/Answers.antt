@@ -9,11 +9,11 @@ invariant_of-self c =
     let s = c.args.self.now in
     let all = s.counted in
     let e = next_fewer (table_tokens s.reader) (closed_ended (drop s.reader.at s.reader.tokens.now)) (omega arith) in
-    (omega (arith, ap length c.advance.ensures.tokens), tt)
+    record { counted = omega (arith, ap length c.advance.ensures.tokens) }
 
 pub invariant_of-self-else-self-gt0 : goal.invariant_of-self-else-self-gt0
 invariant_of-self-else-self-gt0 c =
     let s = c.args.self.now in
     let all = s.counted in
     let e = next_last (table_tokens s.reader) (closed_ended (drop s.reader.at s.reader.tokens.now)) (omega arith) in
-    (omega (arith, ap length c.advance.ensures.tokens), tt)
+    record { counted = omega (arith, ap length c.advance.ensures.tokens) }
