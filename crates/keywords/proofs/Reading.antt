@@ -78,6 +78,9 @@ kept_none t ms [] h = refl
 kept_none t ms (x ∷ ts) h = let e : keyword_here t ms x (head ts) ≡ None = sym (here_next t ms x ts) ∙ h in
     ap (λ o. elim o [ None ↦ [] | Some m ↦ m ∷ kept_from t (added ms m) ts ]) e
 
+none_not_some : {A : Type 0} {m : Modifier} → None ≡ Some m → A
+none_not_some h = let z : ◌≡◌ {A = ℕ} 0 1 = cc in absurd (omega arith)
+
 kept_some : (t : ListSettings) (ms : List Modifier) (ts : List Token) (m : Modifier) → keyword_here t ms (head ts) (head (next ts)) ≡ Some m → kept_from t ms ts ≡ m ∷ kept_from t (added ms m) (next ts)
 kept_some t ms [] m h = let z : ◌≡◌ {A = ℕ} 0 1 = cc in absurd (omega arith)
 kept_some t ms (x ∷ ts) m h = by (is_eof x) refl
@@ -90,7 +93,7 @@ kept_some t ms (x ∷ ts) m h = by (is_eof x) refl
         let z : x.kind ≡ 0 = grind (arith, nat_tests) in
         let n : modifier_of x.kind ≡ None = ap modifier_of z in
         let o : keyword_here t ms x (head ts) ≡ None = ap (λ k. keyword_if t ms k x (head ts)) n in
-        let y : ◌≡◌ {A = ℕ} 0 1 = cc in absurd (omega arith)
+        none_not_some (sym o ∙ e)
     by false f = ap (λ o. elim o [ None ↦ [] | Some m ↦ m ∷ kept_from t (added ms m) ts ]) e
 
 pub read_all : {t : ListSettings} {s₀ s : Scene} {ms : List Modifier} {l₀ l : Held Report} → Read t s₀ s ms l₀ l → keyword_here t ms (head s.tokens) (head (next s.tokens)) ≡ None → (ms ≡ lasts (kept_of t s₀)) × (s ≡ past (length (kept_of t s₀)) s₀) × Noted l₀ l (order_reports [] (kept_of t s₀))
@@ -126,20 +129,20 @@ no_keyword t ms ts {x} cur none =
 
 -- what the reader gives is what the list has
 module _ (t : ListSettings) (ms : List Modifier) (ts : List Token) {x n : Token} {k : ModifierKind} {b : Bool} (cur : x ≡ head ts) (peek : n ≡ head (next ts)) (is : Some k ≡ modifier_of x.kind) (kept : b ≡ keeps Static ms) where
-  here-at : (o : Option Modifier) → cond (eligible t b k n) (cond (may_follow ms (word_at k x.start)) (Some (word_at k x.start)) None) None ≡ o → keyword_here t ms (head ts) (head (next ts)) ≡ o
-  here-at o h =
+  here_at : (o : Option Modifier) → cond (eligible t b k n) (cond (may_follow ms (word_at k x.start)) (Some (word_at k x.start)) None) None ≡ o → keyword_here t ms (head ts) (head (next ts)) ≡ o
+  here_at o h =
       sym (ap₂ (keyword_here t ms) cur peek) ∙ sym (ap (λ j. keyword_if t ms j x n) is)
       ∙ sym (ap (λ c. cond (eligible t c k n) (cond (may_follow ms (word_at k x.start)) (Some (word_at k x.start)) None) None) kept)
       ∙ h
 
   pub not_eligible : false ≡ eligible t b k n → keyword_here t ms (head ts) (head (next ts)) ≡ None
-  not_eligible e = here-at None (rw (← e))
+  not_eligible e = here_at None (rw (← e))
 
   pub not_after : true ≡ eligible t b k n → false ≡ may_follow ms (word_at k x.start) → keyword_here t ms (head ts) (head (next ts)) ≡ None
-  not_after e f = here-at None (rw (← e, ← f))
+  not_after e f = here_at None (rw (← e, ← f))
 
   pub here : true ≡ eligible t b k n → true ≡ may_follow ms (word_at k x.start) → keyword_here t ms (head ts) (head (next ts)) ≡ Some (word_at k x.start)
-  here e f = here-at (Some (word_at k x.start)) (rw (← e, ← f))
+  here e f = here_at (Some (word_at k x.start)) (rw (← e, ← f))
 
   -- a keyword is not Eof
   pub is_more : (head ts).kind ≡ 0 → ⊥
