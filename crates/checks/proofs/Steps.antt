@@ -1,5 +1,5 @@
 -- A check, one kept keyword at a time.
-use Rattle.std.proofs.Common.{◌≡◌, ℕ, ◌+◌, ◌<◌, ◌≤◌, Bool, cond, List, [], ◌∷◌, ◌++◌, length, get_or, take, Some, None, Option, sym, refl, ap, ◌∙◌, subst, append_assoc, append-nil, arith}
+use Rattle.std.proofs.Common.{◌≡◌, ℕ, ◌+◌, ◌<◌, Bool, List, [], ◌∷◌, ◌++◌, length, get_or, take, Some, None, Option, sym, refl, ap, ◌∙◌, subst, append_assoc, append-nil, arith}
 use Rattle.std.proofs.lemmas.List.{take_more}
 use Rattle.std.proofs.lemmas.Option.{slice_get-get_or}
 use Rattle.std.specs.List.{slice_get}
@@ -11,7 +11,7 @@ use Rattle.kinds.specs.declared.modifier_kind.ModifierKind.TheVariants.{Declare}
 use Rattle.list.proofs.Noting.{noted_then}
 use Rattle.list.specs.Lists.{Noted}
 use Rattle.list.specs.declared.list.List.{List as Held}
-use Rattle.modifiers.specs.Entries.{end_of, placed, placed_if, word_at}
+use Rattle.modifiers.specs.Entries.{placed, placed_if, word_at}
 use Rattle.modifiers.specs.declared.modifier.Modifier.{Modifier}
 use Rattle.modifiers.specs.declared.modifier.Placed.{Placed}
 use Rattle.reports.specs.declared.Report.{Report}

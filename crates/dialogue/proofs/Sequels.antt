@@ -1,5 +1,5 @@
 -- One dialogue after another.
-use Rattle.std.proofs.Common.{◌≡◌, ℕ, Bool, true, false, cond, List, [], ◌∷◌, ◌++◌, length, Ok, Err, Result, sym, refl, ap, ◌∙◌, subst, ap₂, append_assoc, append-nil}
+use Rattle.std.proofs.Common.{◌≡◌, Bool, true, false, cond, List, [], ◌++◌, length, Ok, Err, Result, sym, refl, ap, ◌∙◌, subst, ap₂, append_assoc, append-nil}
 use Rattle.checks.specs.ClassChecks.{check_reports}
 use Rattle.dialogue.specs.Dialogues.{Dialogue, after, ask_index, check, done, eat, gains, last, look, note, outcome, peek, semicolons, stop, take_keywords, take_method, take_part, take_semicolons, test, then}
 use Rattle.dialogue.specs.Spoken.{Spoke}

@@ -1,12 +1,12 @@
 -- A step of a dialogue that the code took, and the rest: one lemma for each kind of step.
-use Rattle.std.proofs.Common.{◌≡◌, ℕ, Bool, true, false, cond, List, [], ◌∷◌, ◌++◌, length, Ok, Err, Result, sym, refl, ap, ◌∙◌, subst, ap₂}
+use Rattle.std.proofs.Common.{◌≡◌, ℕ, Bool, true, false, cond, List, [], ◌∷◌, length, Ok, Err, Result, sym, refl, ap, ◌∙◌, subst}
 use Rattle.checks.specs.ClassChecks.{check_reports}
 use Rattle.checks.specs.declared.class_check.ClassCheck.{ClassCheck}
-use Rattle.dialogue.specs.Dialogues.{Dialogue, after, ask_index, check, done, eat, gains, last, look, note, outcome, peek, semicolons, stop, take_keywords, take_method, take_part, take_semicolons, test, then}
+use Rattle.dialogue.specs.Dialogues.{Dialogue, after, ask_index, check, done, eat, gains, last, look, note, outcome, peek, semicolons, stop, take_keywords, take_method, take_part, take_semicolons, test}
 use Rattle.dialogue.specs.Fatal.{fatal_number}
 use Rattle.dialogue.specs.Spoken.{Spoke}
 use Rattle.dialogue.specs.declared.Fatal.{Fatal}
-use Rattle.keywords.specs.Run.{KeywordsRead, kept_of, lasts, order_reports}
+use Rattle.keywords.specs.Run.{KeywordsRead, kept_of, lasts}
 use Rattle.keywords.specs.declared.ListSettings.{ListSettings}
 use Rattle.list.proofs.Noting.{noted_none, noted_then}
 use Rattle.list.specs.Lists.{Noted}

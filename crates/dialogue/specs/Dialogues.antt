@@ -10,7 +10,6 @@ use Rattle.modifiers.specs.declared.modifier.Modifier.{Modifier}
 use Rattle.parts.specs.declared.MethodFacts.{MethodFacts}
 use Rattle.parts.specs.declared.Part.{Part}
 use Rattle.parts.specs.declared.Span.{Span}
-use Rattle.reader.specs.Answers.{Answer}
 use Rattle.reader.specs.Scenes.{Scene, past, past_one}
 use Rattle.reader.specs.Tokens.{head, next}
 use Rattle.reports.specs.Reports.{at_place}

@@ -1,5 +1,5 @@
 -- The two ways of a verdict.
-use Rattle.std.proofs.Common.{◌≡◌, ℕ, Bool, true, false, List, is_some, Option, sym, refl, ap, ◌∙◌, subst, arith}
+use Rattle.std.proofs.Common.{◌≡◌, ℕ, Bool, true, false, List, is_some, Option, sym, ap, ◌∙◌, subst, arith}
 use Rattle.brackets.specs.Format.{bracket_answers}
 use Rattle.gate.specs.Verdicts.{Judged, scene_of, tokens_of}
 use Rattle.kinds.specs.declared.context.Context.{Context}

@@ -1,5 +1,5 @@
 -- What a class body is judged to be.
-use Rattle.std.specs.Prelude.{◌≡◌, ℕ, true, false, List, is_some, None, Option}
+use Rattle.std.specs.Prelude.{◌≡◌, ℕ, true, false, List, is_some, Option}
 use Rattle.brackets.specs.Format.{bracket_answers}
 use Rattle.laws.specs.Bodies.{ReadFrom}
 use Rattle.reader.specs.Scenes.{Scene}

@@ -1,6 +1,6 @@
 -- What the order of keywords earns: one report for each that is misplaced.
-use Rattle.std.proofs.Common.{◌≡◌, ℕ, suc, ◌+◌, ◌<◌, ◌≤◌, Bool, true, false, ◌&&◌, List, [], ◌∷◌, ◌++◌, length, take, Some, None, Option, sym, refl, ap, ◌∙◌, subst, ⊎_elim, append_assoc, append-nil, arith}
-use Rattle.std.proofs.lemmas.Bool.{and_cases, and_from, and_parts, both_ways, cases_Bool}
+use Rattle.std.proofs.Common.{◌≡◌, ℕ, suc, ◌<◌, Bool, true, false, ◌&&◌, List, [], ◌∷◌, ◌++◌, length, take, Some, None, Option, sym, refl, ap, ◌∙◌, subst, ⊎_elim, append_assoc, append-nil, arith}
+use Rattle.std.proofs.lemmas.Bool.{and_from, and_parts, both_ways, cases_Bool}
 use Rattle.kinds.specs.Modifiers.{modifier_number}
 use Rattle.kinds.specs.declared.modifier_kind.ModifierKind.{ModifierKind}
 use Rattle.modifiers.specs.Entries.{added, end_of, keeps}
@@ -10,12 +10,12 @@ use Rattle.reports.specs.Reports.{keyword_report, kind_or_255}
 use Rattle.reports.specs.declared.Report.{Report}
 use Rattle.verdicts.proofs.Ordered.{order_alike, order_rules}
 use Rattle.verdicts.proofs.Pairs.{any_from, any_some, numbers}
-use Rattle.verdicts.specs.Orders.{Gets, LowestForbidden, NoneForbidden, OrderRules, naming, order_of, silent}
+use Rattle.verdicts.specs.Orders.{NoneForbidden, OrderRules, naming, order_of, silent}
 use Rattle.verdicts.specs.Verdicts.{any_of, every_kind, forbids, verdict_of}
 use Rattle.verdicts.specs.declared.order.OrderVerdict.{OrderVerdict}
 use Rattle.keywords.proofs.Cuts.{at_front, keeps_lasts, lasts_push, length_here, length_push, take_front}
 use Rattle.keywords.specs.Laws.{Misplaced, OrderEarned, Prescribed, kept_before, keyword_at, kind_at}
-use Rattle.keywords.specs.Run.{lasts, lasts_from, order_report, order_reports, place_of, reports_of}
+use Rattle.keywords.specs.Run.{lasts, order_reports, place_of, reports_of}
 
 -- whether some kept kind is forbidden
 module _ (kept : ModifierKind → Bool) (later : ModifierKind) where

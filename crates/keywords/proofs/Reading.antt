@@ -1,5 +1,5 @@
 -- A keyword list, one keyword at a time.
-use Rattle.std.proofs.Common.{◌≡◌, ℕ, zero, suc, ◌+◌, ◌^◌, ◌<◌, Bool, true, false, cond, List, [], ◌∷◌, ◌++◌, length, Some, None, Option, sym, refl, ap, ◌∙◌, subst, ap₂, append_assoc, append-nil, arith}
+use Rattle.std.proofs.Common.{◌≡◌, ℕ, zero, suc, ◌^◌, ◌<◌, Bool, true, false, cond, List, [], ◌∷◌, ◌++◌, length, Some, None, Option, sym, refl, ap, ◌∙◌, subst, ap₂, append_assoc, append-nil, arith}
 use Rattle.std.proofs.lemmas.Bool.Decides.{nat_tests}
 use Rattle.kinds.specs.Modifiers.{modifier_number}
 use Rattle.kinds.specs.declared.modifier_kind.ModifierKind.{ModifierKind}
@@ -25,7 +25,6 @@ use Rattle.small_set.specs.Members.{member}
 use Rattle.token.specs.Kinds.{modifier_of}
 use Rattle.token.specs.declared.Token.{Token}
 use Rattle.verdicts.specs.Orders.{order_of}
-use Rattle.verdicts.specs.declared.order.OrderVerdict.{OrderVerdict}
 
 -- the set of the kept kinds says as much as the list
 pub same_order : (bits : ℕ) (ms : List Modifier) (k : ModifierKind) → ((j : ModifierKind) → member bits (modifier_number j) ≡ keeps j ms) → order_of (λ j. member bits (modifier_number j)) k ≡ order_of (λ j. keeps j ms) k

@@ -1,5 +1,5 @@
 -- Every number below the size is the number of a kind.
-use Rattle.std.proofs.Common.{◌≡◌, ℕ, ◌+◌, ◌^◌, ◌<◌, Bool, true, List, [], ◌∷◌, refl, ap, ◌∙◌, arith}
+use Rattle.std.proofs.Common.{◌≡◌, ℕ, ◌^◌, ◌<◌, Bool, true, List, [], ◌∷◌, refl, ap, ◌∙◌, arith}
 use Rattle.small_set.specs.Members.{member}
 use Rattle.small_set.proofs.Back.{kind_at}
 use Rattle.small_set.proofs.Bits.{member_below}

@@ -4,7 +4,7 @@ use Rattle.std.specs.List.{list_all}
 pub use Rattle.kinds.specs.Modifiers.{every_kind, kind_at, same_kind}
 use Rattle.kinds.specs.Modifiers.{word_of}
 use Rattle.kinds.specs.declared.modifier_kind.ModifierKind.{ModifierKind}
-use Rattle.kinds.specs.declared.modifier_kind.ModifierKind.TheVariants.{Declare, Private, Protected, Public, Static, Readonly, Abstract, Override, Async, Const, In, Out, Default, Accessor, Export}
+use Rattle.kinds.specs.declared.modifier_kind.ModifierKind.TheVariants.{Private, Protected, Public}
 use Rattle.modifiers.specs.declared.modifier.Modifier.{Modifier}
 use Rattle.modifiers.specs.declared.modifier.Placed.{Placed}
 

@@ -1,11 +1,11 @@
 -- Lists that end at their one Eof, and lists that are sound: what one token taken leaves.
-use Rattle.std.proofs.Common.{◌≡◌, ℕ, ◌<◌, ◌≤◌, Bool, true, false, cond, ◌&&◌, ltb, leb, List, [], ◌∷◌, length, sym, refl, arith, le-leb}
+use Rattle.std.proofs.Common.{◌≡◌, ◌<◌, ◌≤◌, Bool, true, false, ◌&&◌, ltb, leb, List, [], ◌∷◌, length, sym, refl, arith, le-leb}
 use borrow.Author.Tests.{true-ltb, true-leb}
 use Rattle.std.proofs.lemmas.Bool.Decides.{nat_tests}
 use Rattle.token.specs.Kinds.{modifier_of}
 use Rattle.token.specs.declared.Token.{Token}
 use Rattle.reader.specs.Sound.{all_known, all_placed, before, known, sized, sound, spelled}
-use Rattle.reader.specs.Tokens.{closed, ended, head, is_eof, is_nil, next}
+use Rattle.reader.specs.Tokens.{closed, ended, head, is_eof, next}
 
 pub both : (a b : Bool) → (a && b) ≡ true → (a ≡ true) × (b ≡ true)
 both true b h = (refl, h)

@@ -1,5 +1,5 @@
 -- Lists of tokens from the current one to the end of input (Eof), and what taking tokens makes of them.
-use Rattle.std.specs.Prelude.{◌≡◌, ℕ, zero, suc, ◌<◌, Bool, true, false, cond, List, [], ◌∷◌, length, ◌==◌}
+use Rattle.std.specs.Prelude.{ℕ, zero, suc, Bool, true, false, cond, List, [], ◌∷◌, ◌==◌}
 use Rattle.token.specs.Kinds.{k_eof}
 use Rattle.token.specs.declared.Token.{Token}
 use Rattle.reader.specs.declared.Ahead.{Ahead}

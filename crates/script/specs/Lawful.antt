@@ -1,5 +1,5 @@
 -- What holds of the answers of every script reader, at every list of tokens that ends at its one Eof.
-use Rattle.std.specs.Prelude.{◌≡◌, ℕ, ◌<◌, true, List, length, is_some, is_ok, None, Ok, Result}
+use Rattle.std.specs.Prelude.{◌≡◌, ℕ, ◌<◌, true, List, length, is_some, is_ok, None, Ok}
 use Rattle.parts.specs.declared.MethodFacts.{MethodFacts}
 use Rattle.parts.specs.declared.Part.{Part}
 use Rattle.reader.specs.Answers.{Answer, Answers}

@@ -1,8 +1,8 @@
 -- Lists as boards.
-use Rattle.std.proofs.Common.{◌≡◌, ℕ, ◌+◌, min, Bool, true, false, cond, ltb, List, [], ◌∷◌, ◌++◌, map, length, sym, refl, ap, ◌∙◌, subst, ap₂}
+use Rattle.std.proofs.Common.{◌≡◌, ℕ, ◌+◌, min, Bool, true, false, cond, ltb, List, [], ◌∷◌, ◌++◌, map, length, sym, refl, ap, ◌∙◌}
 use mathlib.Core.List.{map-append}
 use Rattle.std.proofs.lemmas.List.{length-map}
-use Rattle.list.specs.Lists.{Contents, Noted, contents, note_all, note_one, room, lender, listed}
+use Rattle.list.specs.Lists.{Contents, Noted, contents, note_one, room}
 use Rattle.list.proofs.Noting.{of}
 use Rattle.list.specs.declared.list.List.{List as Held}
 use Rattle.records.specs.Told.{Told, told_by}

@@ -1,5 +1,5 @@
 -- What the call of a member does, way by way.
-use Rattle.std.proofs.Common.{◌≡◌, ℕ, ◌<◌, ◌≤◌, Bool, true, false, cond, eqb, ltb, List, [], ◌∷◌, map, length, is_some, Some, None, Ok, Err, Option, Result, sym, refl, ap, ◌∙◌, subst, ap₂}
+use Rattle.std.proofs.Common.{◌≡◌, ℕ, ◌<◌, ◌≤◌, Bool, true, cond, eqb, ltb, [], ◌∷◌, map, length, is_some, Some, None, Option, Result, sym, ap, ◌∙◌, subst, ap₂}
 use Rattle.std.proofs.lemmas.List.{length-map}
 use Rattle.std.proofs.lemmas.Bool.{le-ltb, lt-ltb}
 use Rattle.class.specs.Members.{member_d}
@@ -16,7 +16,7 @@ use Rattle.refusal.specs.Questions.{first_no}
 use Rattle.reports.specs.declared.Report.{Report}
 use Rattle.session.proofs.Boards.{reports_noted}
 use Rattle.session.specs.Boards.{Board, has_place, member_board, note_in, report_board}
-use Rattle.session.specs.Worlds.{Answer, Did, World, faulted_by, is_type_script, reading_of, record_in, refused, refused_or, rule_of, stands, state_number, world_of, member_read}
+use Rattle.session.specs.Worlds.{Answer, Did, faulted_by, is_type_script, reading_of, record_in, refused, refused_or, rule_of, stands, state_number, world_of, member_read}
 use Rattle.session.specs.declared.state.Call.TheVariants.{Member as CallMember, Standing as CallStanding}
 use Rattle.session.specs.declared.state.Session.{Session}
 use Rattle.session.specs.declared.state.State.{State}

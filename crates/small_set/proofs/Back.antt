@@ -1,5 +1,5 @@
 -- A kind and its number lead back to each other.
-use Rattle.std.proofs.Common.{◌≡◌, ℕ, zero, suc, ◌+◌, ◌<◌, ◌≤◌, List, [], ◌∷◌, map, length, Some, None, Option, ap, ◌∙◌, arith, MatchOption}
+use Rattle.std.proofs.Common.{◌≡◌, ℕ, zero, suc, ◌+◌, ◌<◌, ◌≤◌, List, [], ◌∷◌, map, length, Some, None, Option, ap, arith, MatchOption}
 use Rattle.std.specs.List.{range_with_len}
 
 -- what `from_number` answers at the number of k is k; that an answered kind has the number asked for is its contract

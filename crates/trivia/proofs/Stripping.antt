@@ -1,10 +1,10 @@
 -- Without Skip, a list still ends at its one Eof, and a sound one stays sound.
-use Rattle.std.proofs.Common.{◌≡◌, ℕ, ◌<◌, ◌≤◌, Bool, true, false, cond, ◌&&◌, eqb, ltb, List, [], ◌∷◌, Some, None, Option, sym, refl, ap, ◌∙◌, arith}
+use Rattle.std.proofs.Common.{◌≡◌, ◌≤◌, Bool, true, false, cond, ◌&&◌, eqb, ltb, List, [], ◌∷◌, Some, None, Option, refl, ap, ◌∙◌, arith}
 use Rattle.std.proofs.lemmas.Bool.Decides.{nat_tests}
 use Rattle.kinds.specs.declared.modifier_kind.ModifierKind.{ModifierKind}
 use Rattle.reader.proofs.Closing.{sound_cons, sound_first, sound_last}
 use Rattle.reader.specs.Sound.{sized, sound, spelled}
-use Rattle.reader.specs.Tokens.{ended, head, is_eof, is_nil, next}
+use Rattle.reader.specs.Tokens.{ended, head, is_eof, is_nil}
 use Rattle.token.specs.Kinds.{modifier_of}
 use Rattle.token.specs.declared.Token.{Token}
 use Rattle.trivia.specs.Kept.{broken, is_skip, without_skips}

@@ -1,12 +1,10 @@
-use Rattle.std.proofs.Common.{◌≡◌, ℕ, true, false, List, is_some, sym, ap, ◌∙◌}
-use Rattle.brackets.specs.Format.{bracket_answers}
+use Rattle.std.proofs.Common.{◌≡◌, true, false, is_some, ap, ◌∙◌}
 use Rattle.gate.proofs.Judging.{means_lexed, read, scene_of_lem, unread}
 use Rattle.gate.specs.Verdicts.{tokens_of}
 use Rattle.refusal.proofs.Numbered.{some_number}
 use Rattle.refusal.specs.Questions.{first_no}
 use Rattle.text.specs.Lexed.{lexed, text_questions}
 use Rattle.text.specs.Means.{text_tokens}
-use Rattle.token.specs.declared.Token.{Token}
 use Rattle.trivia.specs.Kept.{without_skips}
 use Rattle.trivia.specs.Means.{trivia_tokens}
 use Rattle.gate.proofs.judge.Goals as goal

@@ -1,6 +1,6 @@
 use Rattle.std.proofs.Common.{◌≡◌, ℕ, List, [], ◌∷◌, Some, None, sym, ap, ◌∙◌, subst}
 use Rattle.keywords.proofs.Reading.{end_is, same_order}
-use Rattle.keywords.specs.Run.{order_report, reports_of}
+use Rattle.keywords.specs.Run.{reports_of}
 use Rattle.list.specs.Lists.{Noted}
 use Rattle.modifiers.specs.Entries.{end_of, fits, keeps, word_at}
 use Rattle.modifiers.specs.Lists.{entries}

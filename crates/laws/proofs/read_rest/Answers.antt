@@ -1,4 +1,4 @@
-use Rattle.std.proofs.Common.{ap, arith}
+use Rattle.std.proofs.Common.{arith}
 use Rattle.std.proofs.lemmas.List.{length-map}
 use Rattle.laws.proofs.Bodies.{as_read, at_end, at_fault, at_refusal, going_none, going_on}
 use Rattle.laws.proofs.Growing.{grown}

@@ -1,4 +1,4 @@
-use Rattle.std.proofs.Common.{Ok, Option, sym, refl, ap, ◌∙◌}
+use Rattle.std.proofs.Common.{Ok, Option, sym, ap, ◌∙◌}
 use Rattle.class.specs.Members.{told_of}
 use Rattle.records.specs.declared.record.MemberRecord.{MemberRecord}
 use Rattle.session.specs.Boards.{member_board}

@@ -1,5 +1,5 @@
 -- One less than the power of the size: no more than sixteen bits, and just the numbers below the size.
-use Rattle.std.proofs.Common.{◌≡◌, ◌-◌, ◌*◌, ◌%◌, ◌^◌, ◌<◌, ◌≤◌, ap, ◌∙◌, arith, pow_pos, pow_mono}
+use Rattle.std.proofs.Common.{◌≡◌, ◌*◌, ◌%◌, ◌^◌, ◌<◌, ◌≤◌, arith, pow_pos, pow_mono}
 use Rattle.std.proofs.lemmas.Nat.{one_shl}
 use Rattle.small_set.proofs.Bits.{mask_member}
 use Rattle.small_set.proofs.all.Goals as goal

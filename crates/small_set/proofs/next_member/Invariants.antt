@@ -1,4 +1,3 @@
-use Rattle.std.proofs.Common.{◌<◌}
 use Rattle.small_set.specs.Members.{NoneAmong}
 use Rattle.small_set.proofs.next_member.Given as goal
 

@@ -1,4 +1,4 @@
-use Rattle.std.proofs.Common.{◌≡◌, ◌<◌, ◌≤◌, length, sym, arith, take_all}
+use Rattle.std.proofs.Common.{◌≤◌, length, arith, take_all}
 use Rattle.checks.proofs.Once.{checked_lasts}
 use Rattle.checks.proofs.Steps.{checked_more, never_none}
 use Rattle.modifiers.proofs.Laws.{entries_rise}

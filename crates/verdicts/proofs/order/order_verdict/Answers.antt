@@ -1,4 +1,4 @@
-use Rattle.std.proofs.Common.{◌≡◌, Bool, Some, sym, ap, ◌∙◌}
+use Rattle.std.proofs.Common.{Bool, Some, sym, ap, ◌∙◌}
 use Rattle.small_set.specs.Members.{member}
 use Rattle.kinds.specs.Modifiers.{modifier_number}
 use Rattle.kinds.specs.declared.modifier_kind.ModifierKind.{ModifierKind}

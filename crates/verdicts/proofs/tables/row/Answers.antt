@@ -1,8 +1,8 @@
-use Rattle.std.proofs.Common.{◌≡◌, ◌^◌, ◌<◌, ap, ◌∙◌, arith}
+use Rattle.std.proofs.Common.{◌≡◌, ap, ◌∙◌}
 use Rattle.small_set.specs.Members.{member}
 use Rattle.kinds.specs.Modifiers.{modifier_number}
 use Rattle.verdicts.specs.Verdicts.{forbidden_before, kind_at, packed}
-use Rattle.verdicts.proofs.Pairs.{numbers, row_below, row_members}
+use Rattle.verdicts.proofs.Pairs.{numbers, row_members}
 use Rattle.verdicts.proofs.tables.row.Goals as goal
 
 pub returns : goal.returns

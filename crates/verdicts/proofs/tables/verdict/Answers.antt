@@ -1,4 +1,4 @@
-use Rattle.std.proofs.Common.{ap, ◌∙◌, ap₂}
+use Rattle.std.proofs.Common.{◌∙◌, ap₂}
 use Rattle.verdicts.specs.Verdicts.{kind_at, verdict_of}
 use Rattle.verdicts.proofs.Pairs.{numbers}
 use Rattle.verdicts.proofs.tables.verdict.Goals as goal

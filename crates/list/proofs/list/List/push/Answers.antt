@@ -1,4 +1,4 @@
-use Rattle.std.proofs.Common.{◌≡◌, ◌<◌, true, ltb, length, take, refl, ap, add-one, arith, length-take, take-suc-set, rules}
+use Rattle.std.proofs.Common.{◌≡◌, ◌<◌, true, ltb, length, take, ap, add-one, arith, length-take, take-suc-set, rules}
 use Rattle.std.proofs.lemmas.Bool.Decides.{nat_tests}
 use Rattle.list.proofs.Noting.{of}
 use Rattle.list.proofs.list.List.push.Goals as goal

@@ -1,4 +1,4 @@
-use Rattle.std.proofs.Common.{◌≡◌, ◌+◌, ◌-◌, ◌<◌, ◌≤◌, length, get_or, take, sym, ap, ◌∙◌, arith}
+use Rattle.std.proofs.Common.{◌≡◌, ◌+◌, ◌-◌, take, sym, ap, ◌∙◌, arith}
 use Rattle.modifiers.specs.Entries.{above, ascending, listed}
 use Rattle.modifiers.specs.Lists.{entries}
 use Rattle.modifiers.proofs.Held.{above_all, known_at}

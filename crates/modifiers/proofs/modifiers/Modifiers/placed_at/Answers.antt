@@ -1,4 +1,4 @@
-use Rattle.std.proofs.Common.{◌^◌, sym, ◌∙◌, arith}
+use Rattle.std.proofs.Common.{◌^◌, sym, arith}
 use Rattle.std.proofs.lemmas.Bool.{ltb-true}
 use Rattle.modifiers.specs.Entries.{end_of, fits}
 use Rattle.modifiers.specs.Lists.{entries}

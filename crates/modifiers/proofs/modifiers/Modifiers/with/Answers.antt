@@ -1,8 +1,8 @@
-use Rattle.std.proofs.Common.{◌≡◌, ◌+◌, ◌<◌, ◌≤◌, true, false, ◌||◌, eqb, length, take, set, sym, ap, ◌∙◌, arith}
+use Rattle.std.proofs.Common.{◌||◌, take, sym, ap, ◌∙◌, arith}
 use Rattle.std.specs.List.{list_all}
 use Rattle.std.proofs.lemmas.Bool.{and_parts, or_parts}
 use Rattle.kinds.specs.Modifiers.{modifier_number}
-use Rattle.modifiers.specs.Entries.{above, apart, ascending, added, fits, keeps, listed, same_kind, without, word_at}
+use Rattle.modifiers.specs.Entries.{above, apart, ascending, fits, keeps, listed, same_kind, without, word_at}
 use Rattle.modifiers.specs.Lists.{entries}
 use Rattle.modifiers.proofs.Kept.{all_left, all_one_more, apart_added, keeps_added, rising_added}
 use Rattle.modifiers.proofs.Held.{blank_moved, order_known, order_listed, room_left}

@@ -1,4 +1,4 @@
-use Rattle.std.proofs.Common.{◌≡◌, length, sym, arith, length-take}
+use Rattle.std.proofs.Common.{arith, length-take}
 use Rattle.records.specs.Decorators.{spans_of}
 use Rattle.records.proofs.decorators.Decorators.len.Goals as goal
 

@@ -1,4 +1,4 @@
-use Rattle.std.proofs.Common.{◌≡◌, ◌<◌, true, false, ltb, length, take, sym, refl, add-one, arith, length-take, take-suc-set, rules}
+use Rattle.std.proofs.Common.{◌≡◌, ◌<◌, length, take, refl, add-one, arith, length-take, take-suc-set, rules}
 use Rattle.std.proofs.lemmas.Bool.Decides.{nat_tests}
 use Rattle.records.specs.Decorators.{spans_of}
 use Rattle.records.proofs.decorators.Decorators.push.Goals as goal

@@ -1,4 +1,4 @@
-use Rattle.std.proofs.Common.{Some, Ok, sym, refl, ap, ◌∙◌}
+use Rattle.std.proofs.Common.{Some, Ok, refl, ap, ◌∙◌}
 use Rattle.list.specs.Lists.{room}
 use Rattle.list.specs.declared.list.List.{List as Held}
 use Rattle.reader.specs.Scenes.{scene}
