@@ -32,6 +32,10 @@ BY_HAND = {
 WITHIN = {
     "takeSemicolons", "takeKeywords", "takePart", "takeMethod", "askIndex",
     "spanTo", "reportOf", "staticKept", "isStatic", "isAbstract",
+    "tells-then", "no-rest", "parts-read", "at-comma", "starts-below", "check-from", "outcome-of",
+    "after-of", "gains-of", "here-at", "some-offend", "none-offend", "fit-here", "some-none",
+    "refused-takes", "judged-takes", "plain-takes", "part-answered", "method-answered",
+    "given-forbidden", "among-offenders", "given-none", "not-both",
 }
 
 

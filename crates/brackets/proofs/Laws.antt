@@ -136,9 +136,9 @@ anything : {F : Type 0} {f : Reading F} → Tells (λ _. Unit {0}) f
 anything = record { facts = λ _ _ _. tt }
 
 module _ {F G : Type 0} {f : Reading F} {g : F → Reading G} {Q : F → Type 0} {P : G → Type 0} where
-  tells-then : Tells Q f → ((x : F) → Q x → Tells P (g x)) → Tells P (and_then f g)
+  tells_then : Tells Q f → ((x : F) → Q x → Tells P (g x)) → Tells P (and_then f g)
   unfolding and_then
-  tells-then a b = record { facts = λ ts y. by ts y (f ts).result refl }
+  tells_then a b = record { facts = λ ts y. by ts y (f ts).result refl }
     where
       by : (ts : List Token) (y : G) (r : Result F Span) → (f ts).result ≡ r → (proceed r (f ts).count (λ x. g x (ahead (f ts).count ts))).result ≡ Ok y → P y
       by ts y (Ok x) e h = (b x (a.facts ts x e)).facts (ahead (f ts).count ts) y h
@@ -172,11 +172,11 @@ first_item_lem this ss = by (items_of ss) (rest_of ss)
 
 list_first : Tells (λ l. FirstItem l.parameters) parameter_list_of
 list_first =
-    tells-then anything (λ opener _. tells-then anything (λ between _. tells-then anything (λ closer _. tells_give _ (first_item_lem (this_of (stretches 0 between)) (filled (without_this (stretches 0 between)))))))
+    tells_then anything (λ opener _. tells_then anything (λ between _. tells_then anything (λ closer _. tells_give _ (first_item_lem (this_of (stretches 0 between)) (filled (without_this (stretches 0 between)))))))
 
 method_first : Tells Itemed method_of
 method_first =
-    tells_spanned (tells-then anything (λ generics _. tells-then list_first (λ list h. tells-then anything (λ type _. tells-then anything (λ body _. tells_give _ (λ span. h))))))
+    tells_spanned (tells_then anything (λ generics _. tells_then list_first (λ list h. tells_then anything (λ type _. tells_then anything (λ body _. tells_give _ (λ span. h))))))
 
 pub lawful : Lawful bracket_answers
 lawful =

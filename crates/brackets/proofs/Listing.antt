@@ -111,11 +111,11 @@ parameters t r i o e n =
 pub finish_none : (p : Parameters) → Sane p → p ≡ finish p []
 finish_none p s =
     let n : p.count ≡ capped (p.count + 0) = sym (ap capped (add-zero p.count) ∙ min-eq_left s.few) in
-    λ i. parameters p.this_param (no-rest p.rest i) (no_item p.first_item (is_some p.rest) i) (no_flag k_question (is_some p.first_item) (is_some p.rest) p.first_optional s.optional i) (no_flag k_eq (is_some p.first_item) (is_some p.rest) p.first_initializer s.initializer i) (n i)
+    λ i. parameters p.this_param (no_rest p.rest i) (no_item p.first_item (is_some p.rest) i) (no_flag k_question (is_some p.first_item) (is_some p.rest) p.first_optional s.optional i) (no_flag k_eq (is_some p.first_item) (is_some p.rest) p.first_initializer s.initializer i) (n i)
   where
-    no-rest : (r : Option Span) → r ≡ or_else r None
-    no-rest None = refl
-    no-rest (Some x) = refl
+    no_rest : (r : Option Span) → r ≡ or_else r None
+    no_rest None = refl
+    no_rest (Some x) = refl
 
     no_item : (r : Option Span) (b : Bool) → r ≡ or_else r (span_of (next_item b []))
     no_item None true = refl
@@ -198,8 +198,8 @@ sane_first s = by (eqb s.kind k_this)
 
 -- a stretch that was taken
 module _ (a b : Scene) (m : b ≡ past (length (stretch_of a.tokens)) a) where
-  parts-read : stretches 0 (inside a.tokens) ≡ stretch_of a.tokens ∷ left_parts b.tokens
-  parts-read = parts_are 0 a.tokens ∙ ap (λ z. stretch_of a.tokens ∷ left_parts z.tokens) (sym m)
+  parts_read : stretches 0 (inside a.tokens) ≡ stretch_of a.tokens ∷ left_parts b.tokens
+  parts_read = parts_are 0 a.tokens ∙ ap (λ z. stretch_of a.tokens ∷ left_parts z.tokens) (sym m)
 
   pub scene_read : past (left_count b.tokens) b ≡ past (length (inside a.tokens)) a
   scene_read =
@@ -208,24 +208,24 @@ module _ (a b : Scene) (m : b ≡ past (length (stretch_of a.tokens)) a) where
 
   pub first_read : (p : Parameters) (s : Stretch) → s ≡ told (stretch_of a.tokens) → p ≡ started_by s → finish p (left_parts b.tokens) ≡ parameters_of (stretches 0 (inside a.tokens))
   first_read p s e f =
-      ap (λ x. finish x (left_parts b.tokens)) (f ∙ ap started_by e) ∙ finish_first (stretch_of a.tokens) (left_parts b.tokens) ∙ ap parameters_of (sym parts-read)
+      ap (λ x. finish x (left_parts b.tokens)) (f ∙ ap started_by e) ∙ finish_first (stretch_of a.tokens) (left_parts b.tokens) ∙ ap parameters_of (sym parts_read)
 
 -- a comma, and a stretch after it
 module _ (s a b : Scene) (k : (head s.tokens).kind ≡ k_comma) (q : a ≡ past_one s) (m : b ≡ past (length (stretch_of a.tokens)) a) where
-  at-comma : eqb (head s.tokens).kind k_comma ≡ true
-  at-comma = eq-eqb _ _ k
+  at_comma : eqb (head s.tokens).kind k_comma ≡ true
+  at_comma = eq-eqb _ _ k
 
   pub scene_turn : past (left_count b.tokens) b ≡ past (left_count s.tokens) s
   scene_turn =
-      let n : left_count s.tokens ≡ suc (length (inside (next s.tokens))) = rw at-comma (omega arith) in
+      let n : left_count s.tokens ≡ suc (length (inside (next s.tokens))) = rw at_comma (omega arith) in
       scene_read a b m ∙ (λ i. past (length (inside (q i).tokens)) (q i)) ∙ ap (λ j. past j s) (sym n)
 
   pub parts_turn : (p p' : Parameters) (x : Stretch) → x ≡ told (stretch_of a.tokens) → p' ≡ with_one p x → finish p' (left_parts b.tokens) ≡ finish p (left_parts s.tokens)
   parts_turn p p' x e f =
-      let l : left_parts s.tokens ≡ stretches 0 (inside (next s.tokens)) = rw at-comma in
+      let l : left_parts s.tokens ≡ stretches 0 (inside (next s.tokens)) = rw at_comma in
       ap (λ z. finish z (left_parts b.tokens)) (f ∙ ap (with_one p) e)
       ∙ finish_more p (stretch_of a.tokens) (left_parts b.tokens)
-      ∙ ap (finish p) (sym (parts-read a b m))
+      ∙ ap (finish p) (sym (parts_read a b m))
       ∙ ap (λ z. finish p (stretches 0 (inside z.tokens))) q
       ∙ ap (finish p) (sym l)
 

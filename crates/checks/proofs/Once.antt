@@ -98,11 +98,11 @@ module _ (allowed : ℕ) (strict : Bool) (says : ModifierKind → Option ℕ →
   abbrev starts : List Report → List ℕ
   starts = map (λ r. r.start)
 
-  starts-below : (x : ℕ) (ms : List Modifier) → list_all (λ n. ltb x n.start) ms ≡ true → Every (λ j. x < j) (starts (checked ms))
-  starts-below x [] h = tt
-  starts-below x (m ∷ ms) h =
+  starts_below : (x : ℕ) (ms : List Modifier) → list_all (λ n. ltb x n.start) ms ≡ true → Every (λ j. x < j) (starts (checked ms))
+  starts_below x [] h = tt
+  starts_below x (m ∷ ms) h =
       let hs = and_parts (ltb x m.start) (list_all (λ n. ltb x n.start) ms) h in
-      step (member allowed (modifier_number m.kind)) (ltb-true x m.start hs.0) (starts-below x ms hs.1)
+      step (member allowed (modifier_number m.kind)) (ltb-true x m.start hs.0) (starts_below x ms hs.1)
     where
       step : (b : Bool) → x < m.start → Every (λ j. x < j) (starts (checked ms)) → Every (λ j. x < j) (starts (report_unless b (said m) ++ checked ms))
       step true l ih = ih
@@ -112,20 +112,20 @@ module _ (allowed : ℕ) (strict : Bool) (says : ModifierKind → Option ℕ →
   starts_ascend [] h = tt
   starts_ascend (m ∷ ms) h =
       let hs = and_parts (list_all (λ n. ltb m.start n.start) ms) (ascending ms) h in
-      step (member allowed (modifier_number m.kind)) (starts-below m.start ms hs.0) (starts_ascend ms hs.1)
+      step (member allowed (modifier_number m.kind)) (starts_below m.start ms hs.0) (starts_ascend ms hs.1)
     where
       step : (b : Bool) → Every (λ j. m.start < j) (starts (checked ms)) → Ascending (starts (checked ms)) → Ascending (starts (report_unless b (said m) ++ checked ms))
       step true l ih = ih
       step false l ih = (l, ih)
 
   -- ---- one report for each
-  check-from : (kept pre rest : List Modifier) → kept ≡ pre ++ rest → OneFrom (LastDisallowed allowed kept) (Worded allowed strict says kept) (length pre) (length kept) (checked (last_ones rest))
-  check-from kept pre [] e =
+  check_from : (kept pre rest : List Modifier) → kept ≡ pre ++ rest → OneFrom (LastDisallowed allowed kept) (Worded allowed strict says kept) (length pre) (length kept) (checked (last_ones rest))
+  check_from kept pre [] e =
       from_end (LastDisallowed allowed kept) (Worded allowed strict says kept) (length pre) (length kept)
       (let l : length kept ≡ length pre = ap length (e ∙ append-nil pre) in omega arith)
-  check-from kept pre (m ∷ ms) e =
+  check_from kept pre (m ∷ ms) e =
       step (keeps m.kind ms) refl (member allowed (modifier_number m.kind)) refl
-      (rw (length_push pre m) at (check-from kept (pre ++ (m ∷ [])) ms (e ∙ sym (append_assoc pre (m ∷ []) ms))))
+      (rw (length_push pre m) at (check_from kept (pre ++ (m ∷ [])) ms (e ∙ sym (append_assoc pre (m ∷ []) ms))))
     where
       here : keyword_at kept (length pre) ≡ m
       here = ap (λ l. keyword_at l (length pre)) e ∙ at_front pre m ms
@@ -159,7 +159,7 @@ module _ (allowed : ℕ) (strict : Bool) (says : ModifierKind → Option ℕ →
   checked_lasts kept ms e h =
       record {
         once = subst (λ (l : List Modifier). OneEach (LastDisallowed allowed kept) (Worded allowed strict says kept) (length kept) (checked l)) (sym (e ∙ lasts_are kept))
-            (from_all (LastDisallowed allowed kept) (Worded allowed strict says kept) (length kept) _ (check-from kept [] kept refl));
+            (from_all (LastDisallowed allowed kept) (Worded allowed strict says kept) (length kept) _ (check_from kept [] kept refl));
         ascend = starts_ascend ms h;
       }
 

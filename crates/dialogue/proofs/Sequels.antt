@@ -15,32 +15,32 @@ use Rattle.script.specs.Asking.{index_at, method_at, part_at}
 
 module _ {A B : Type 0} (f : A → Dialogue B) where
   -- what follows, of an outcome
-  abbrev outcome-of : Result A Fatal → Scene → Result B Fatal
-  outcome-of (Err e) s = Err e
-  outcome-of (Ok a) s = outcome (f a) s
+  abbrev outcome_of : Result A Fatal → Scene → Result B Fatal
+  outcome_of (Err e) s = Err e
+  outcome_of (Ok a) s = outcome (f a) s
 
-  abbrev after-of : Result A Fatal → Scene → Scene
-  after-of (Err e) s = s
-  after-of (Ok a) s = after (f a) s
+  abbrev after_of : Result A Fatal → Scene → Scene
+  after_of (Err e) s = s
+  after_of (Ok a) s = after (f a) s
 
-  abbrev gains-of : Result A Fatal → Scene → List Report
-  gains-of (Err e) s = []
-  gains-of (Ok a) s = gains (f a) s
+  abbrev gains_of : Result A Fatal → Scene → List Report
+  gains_of (Err e) s = []
+  gains_of (Ok a) s = gains (f a) s
 
   record Follows (d : Dialogue A) (s : Scene) : Type 0 where
-    value : outcome (then d f) s ≡ outcome-of (outcome d s) (after d s)
-    means : after (then d f) s ≡ after-of (outcome d s) (after d s)
-    reports : gains (then d f) s ≡ gains d s ++ gains-of (outcome d s) (after d s)
+    value : outcome (then d f) s ≡ outcome_of (outcome d s) (after d s)
+    means : after (then d f) s ≡ after_of (outcome d s) (after d s)
+    reports : gains (then d f) s ≡ gains d s ++ gains_of (outcome d s) (after d s)
 
   pick : (p : Bool) (d e : Dialogue A) (s t : Scene) → Follows d s → Follows e t → record {
-    value : cond p (outcome (then d f) s) (outcome (then e f) t) ≡ outcome-of (cond p (outcome d s) (outcome e t)) (cond p (after d s) (after e t));
-    means : cond p (after (then d f) s) (after (then e f) t) ≡ after-of (cond p (outcome d s) (outcome e t)) (cond p (after d s) (after e t));
-    reports : cond p (gains (then d f) s) (gains (then e f) t) ≡ cond p (gains d s) (gains e t) ++ gains-of (cond p (outcome d s) (outcome e t)) (cond p (after d s) (after e t));
+    value : cond p (outcome (then d f) s) (outcome (then e f) t) ≡ outcome_of (cond p (outcome d s) (outcome e t)) (cond p (after d s) (after e t));
+    means : cond p (after (then d f) s) (after (then e f) t) ≡ after_of (cond p (outcome d s) (outcome e t)) (cond p (after d s) (after e t));
+    reports : cond p (gains (then d f) s) (gains (then e f) t) ≡ cond p (gains d s) (gains e t) ++ gains_of (cond p (outcome d s) (outcome e t)) (cond p (after d s) (after e t));
   }
   pick true d e s t h k = record { value = h.value; means = h.means; reports = h.reports }
   pick false d e s t h k = record { value = k.value; means = k.means; reports = k.reports }
 
-  before : (xs : List Report) (d : Dialogue A) (s : Scene) → gains (then d f) s ≡ gains d s ++ gains-of (outcome d s) (after d s) → xs ++ gains (then d f) s ≡ (xs ++ gains d s) ++ gains-of (outcome d s) (after d s)
+  before : (xs : List Report) (d : Dialogue A) (s : Scene) → gains (then d f) s ≡ gains d s ++ gains_of (outcome d s) (after d s) → xs ++ gains (then d f) s ≡ (xs ++ gains d s) ++ gains_of (outcome d s) (after d s)
   before xs d s e = ap (λ l. xs ++ l) e ∙ sym (append_assoc xs (gains d s) _)
 
   follows : (d : Dialogue A) (s : Scene) → Follows d s
@@ -68,10 +68,10 @@ module _ {A B : Type 0} (f : A → Dialogue B) where
   then_spoke d {s} {s'} {s''} {l} {l'} {l''} {a} {r} one two =
       let x = follows d s in
       record {
-        value = two.value ∙ sym (x.value ∙ ap₂ outcome-of (sym one.value) (sym one.means));
-        means = two.means ∙ sym (x.means ∙ ap₂ after-of (sym one.value) (sym one.means));
+        value = two.value ∙ sym (x.value ∙ ap₂ outcome_of (sym one.value) (sym one.means));
+        means = two.means ∙ sym (x.means ∙ ap₂ after_of (sym one.value) (sym one.means));
         reports =
-            subst (λ (xs : List Report). Noted l l'' xs) (sym (x.reports ∙ ap (λ l. gains d s ++ l) (ap₂ gains-of (sym one.value) (sym one.means))))
+            subst (λ (xs : List Report). Noted l l'' xs) (sym (x.reports ∙ ap (λ l. gains d s ++ l) (ap₂ gains_of (sym one.value) (sym one.means))))
             (noted_then one.reports two.reports);
       }
 
@@ -80,10 +80,10 @@ module _ {A B : Type 0} (f : A → Dialogue B) where
   then_stopped d {s} {s'} {l} {l'} {e} one =
       let x = follows d s in
       record {
-        value = sym (x.value ∙ ap₂ outcome-of (sym one.value) (sym one.means));
-        means = sym (x.means ∙ ap₂ after-of (sym one.value) (sym one.means));
+        value = sym (x.value ∙ ap₂ outcome_of (sym one.value) (sym one.means));
+        means = sym (x.means ∙ ap₂ after_of (sym one.value) (sym one.means));
         reports =
-            subst (λ (xs : List Report). Noted l l' xs) (sym (x.reports ∙ ap (λ l. gains d s ++ l) (ap₂ gains-of (sym one.value) (sym one.means)) ∙ append-nil (gains d s)))
+            subst (λ (xs : List Report). Noted l l' xs) (sym (x.reports ∙ ap (λ l. gains d s ++ l) (ap₂ gains_of (sym one.value) (sym one.means)) ∙ append-nil (gains d s)))
             one.reports;
       }
 

@@ -22,13 +22,13 @@ module _ (kept : ModifierKind → Bool) (later : ModifierKind) where
   abbrev offends : ModifierKind → Bool
   offends k = kept k && forbids later k
 
-  some-offend : any_of offends every_kind ≡ true → (k : ModifierKind) × (kept k ≡ true) × (forbids later k ≡ true)
-  some-offend h =
+  some_offend : any_of offends every_kind ≡ true → (k : ModifierKind) × (kept k ≡ true) × (forbids later k ≡ true)
+  some_offend h =
       let m = any_some offends every_kind h in
       let p = and_parts (kept m.0) (forbids later m.0) m.2 in (m.0, p.0, p.1)
 
-  none-offend : any_of offends every_kind ≡ false → NoneForbidden kept later
-  none-offend h k a =
+  none_offend : any_of offends every_kind ≡ false → NoneForbidden kept later
+  none_offend h k a =
       ⊎_elim (λ f. absurd (both_ways (any_of offends every_kind) h (any_from offends every_kind k (numbers k).2 (and_from (kept k) (forbids later k) a f)))) (λ f. f)
       (cases_Bool (forbids later k))
 
@@ -83,9 +83,9 @@ orders_from kept pre (m ∷ ms) e =
     found v f =
         ⊎_elim
         (λ s.
-        let o = some-offend before m.kind s in (o.0, o.1, ap (λ x. forbids x.kind o.0) here ∙ o.2))
+        let o = some_offend before m.kind s in (o.0, o.1, ap (λ x. forbids x.kind o.0) here ∙ o.2))
         (λ s.
-        let n = (order_rules before m.kind).nothing (none-offend before m.kind s) in
+        let n = (order_rules before m.kind).nothing (none_offend before m.kind s) in
         let z : ◌≡◌ {A = ℕ} 0 1 = cc in absurd (omega arith))
         (cases_Bool (any_of (offends before m.kind) every_kind))
 

@@ -113,8 +113,8 @@ run_after s before (t ∷ ts) h a = by (modifier_of t.kind) refl (λ k. run_afte
         plain : next (t ∷ ts) ≡ ts
         plain = next_plain t ts (not_eof t k e)
 
-        fit-here : eligible s (keeps Static before) k (head ts) ≡ eligible s (keeps Static (lasts before)) k (head ts)
-        fit-here = ap (λ b. eligible s b k (head ts)) (sym (keeps_lasts Static before))
+        fit_here : eligible s (keeps Static before) k (head ts) ≡ eligible s (keeps Static (lasts before)) k (head ts)
+        fit_here = ap (λ b. eligible s b k (head ts)) (sym (keeps_lasts Static before))
 
         first : First t ts
         first = subst (λ (us : List Token). First t us) plain (sound_current (t ∷ ts) h (not_eof t k e))
@@ -127,14 +127,14 @@ run_after s before (t ∷ ts) h a = by (modifier_of t.kind) refl (λ k. run_afte
             run_none s before (t ∷ ts)
             (λ j x.
             let q : j ≡ k = (let y = x.keyword in cc) in
-            let v = sym x.fit ∙ ap (λ i. eligible s (keeps Static before) i (head (next (t ∷ ts)))) q ∙ ap (λ us. eligible s (keeps Static before) k (head us)) plain ∙ fit-here ∙ f in
+            let v = sym x.fit ∙ ap (λ i. eligible s (keeps Static before) i (head (next (t ∷ ts)))) q ∙ ap (λ us. eligible s (keeps Static before) k (head us)) plain ∙ fit_here ∙ f in
             let z : ◌≡◌ {A = ℕ} 0 1 = cc in absurd (omega arith))
         is true f false g =
             subst (λ (c : Bool). From (cond c (Some (word_at k t.start)) None)) (sym (follows ∙ g))
             (run_none s before (t ∷ ts) (λ j x. let q : j ≡ k = (let y = x.keyword in cc) in ap (λ i. fits (word_at i t.start)) q ∙ g))
         is true f true g =
             subst (λ (c : Bool). From (cond c (Some (word_at k t.start)) None)) (sym (follows ∙ g))
-            (run_more s before t ts k (kept_from s (added (lasts before) (word_at k t.start)) ts) plain e (fit-here ∙ f)
+            (run_more s before t ts k (kept_from s (added (lasts before) (word_at k t.start)) ts) plain e (fit_here ∙ f)
             (subst (λ (ms : List Modifier). RunAfter s (before ++ (word_at k t.start ∷ [])) ts (kept_from s ms ts)) (lasts_push [] before (word_at k t.start))
             (more k first.rest
             (rw (lasts_push [] before (word_at k t.start)) (above_added (lasts before) (word_at k t.start) (head ts).start a (let l = first.some in let m = first.within in omega arith))))))

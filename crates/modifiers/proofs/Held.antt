@@ -131,13 +131,13 @@ all_nth p (x ∷ xs) (suc i) d l h = all_nth p xs i d (omega arith) (and_parts (
 
 pub all_found : {X : Type 0} (p : X → Bool) (xs : List X) (i : ℕ) (x : X) → list_all p xs ≡ true → slice_get xs i ≡ Some x → p x ≡ true
 all_found p xs i x h e =
-    ⊎_elim (λ l. ap p (sym (inside l)) ∙ all_nth p xs i x l h) (λ l. absurd (some-none (sym e ∙ slice_get_past xs i l))) (cases_lt i (length xs))
+    ⊎_elim (λ l. ap p (sym (inside l)) ∙ all_nth p xs i x l h) (λ l. absurd (some_none (sym e ∙ slice_get_past xs i l))) (cases_lt i (length xs))
   where
     inside : i < length xs → get_or xs i x ≡ x
     inside l = let f = slice_get-get_or xs i x l in cc
 
-    some-none : Some x ≡ None → ⊥
-    some-none q = let z : ◌≡◌ {A = ℕ} 0 1 = cc in omega arith
+    some_none : Some x ≡ None → ⊥
+    some_none q = let z : ◌≡◌ {A = ℕ} 0 1 = cc in omega arith
 
 pub known_at : (order : List ℕ) (len i : ℕ) → i < len → i < length order → known (take len order) ≡ true → get_or order i 0 < 15
 known_at order len i l m h =

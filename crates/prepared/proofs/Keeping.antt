@@ -18,28 +18,28 @@ ended_some (t ∷ ts) h = omega arith
 
 -- what each piece takes of a list that is not empty
 module _ (ts : List Token) (some-token : 0 < length ts) (t : Token) where
-  refused-takes : {F : Type 0} → Takes {F = F} (refused_at t) ts
-  refused-takes = record { within = some-token; some = λ e. grind arith }
+  refused_takes : {F : Type 0} → Takes {F = F} (refused_at t) ts
+  refused_takes = record { within = some-token; some = λ e. grind arith }
 
-  judged-takes : {F : Type 0} (b : Bool) (r : Result F Span) (count : ℕ) → (b ≡ true → keeps_rules (is_ok r) count (length ts - 1) ≡ true) → Takes (judged b r count t) ts
-  judged-takes false r count k = refused-takes
-  judged-takes true r count k = let e = k refl in record { within = grind (arith, nat_tests); some = λ o. grind (arith, nat_tests) }
+  judged_takes : {F : Type 0} (b : Bool) (r : Result F Span) (count : ℕ) → (b ≡ true → keeps_rules (is_ok r) count (length ts - 1) ≡ true) → Takes (judged b r count t) ts
+  judged_takes false r count k = refused_takes
+  judged_takes true r count k = let e = k refl in record { within = grind (arith, nat_tests); some = λ o. grind (arith, nat_tests) }
 
-  plain-takes : (o : Told) (count : ℕ) → Takes (plain_told o count t (length ts - 1)) ts
-  plain-takes (Plain p r) count = judged-takes (keeps_rules (is_ok r) count (length ts - 1)) r count (λ e. e)
-  plain-takes (Method r) count = refused-takes
+  plain_takes : (o : Told) (count : ℕ) → Takes (plain_told o count t (length ts - 1)) ts
+  plain_takes (Plain p r) count = judged_takes (keeps_rules (is_ok r) count (length ts - 1)) r count (λ e. e)
+  plain_takes (Method r) count = refused_takes
 
   method_takes : (o : Told) (count : ℕ) → Takes (method_told o count t (length ts - 1)) ts
-  method_takes (Plain p r) count = refused-takes
-  method_takes (Method r) count = judged-takes (keeps_rules (is_ok r) count (length ts - 1) && are_itemed r) r count (λ e. grind (arith, nat_tests))
+  method_takes (Plain p r) count = refused_takes
+  method_takes (Method r) count = judged_takes (keeps_rules (is_ok r) count (length ts - 1) && are_itemed r) r count (λ e. grind (arith, nat_tests))
 
-  part-answered : (o : Option PartRecord) → Takes (plain_answer o t (length ts - 1)) ts
-  part-answered None = refused-takes
-  part-answered (Some r) = plain-takes r.told r.count
+  part_answered : (o : Option PartRecord) → Takes (plain_answer o t (length ts - 1)) ts
+  part_answered None = refused_takes
+  part_answered (Some r) = plain_takes r.told r.count
 
-  method-answered : (o : Option PartRecord) → Takes (method_answer o t (length ts - 1)) ts
-  method-answered None = refused-takes
-  method-answered (Some r) = method_takes r.told r.count
+  method_answered : (o : Option PartRecord) → Takes (method_answer o t (length ts - 1)) ts
+  method_answered None = refused_takes
+  method_answered (Some r) = method_takes r.told r.count
 
 itemed : (m : MethodFacts) → is_itemed m ≡ true → Itemed m
 itemed m h = λ e f. grind (arith, nat_tests)
@@ -65,7 +65,7 @@ answer_itemed (Some r) t n m h = told_itemed r.told r.count t n m h
 pub prepared_lawful : (rs : List PartRecord) → Lawful (prepared_answers rs)
 prepared_lawful rs =
     record {
-      parts = λ p c ts h. part-answered ts (ended_some ts h) (head ts) (first_at (part_number p) (head ts).start rs);
-      methods = λ c ts h. method-answered ts (ended_some ts h) (head ts) (first_at method_number (head ts).start rs);
+      parts = λ p c ts h. part_answered ts (ended_some ts h) (head ts) (first_at (part_number p) (head ts).start rs);
+      methods = λ c ts h. method_answered ts (ended_some ts h) (head ts) (first_at method_number (head ts).start rs);
       items = λ c ts m h. answer_itemed (first_at method_number (head ts).start rs) (head ts) (length ts - 1) m h;
     }

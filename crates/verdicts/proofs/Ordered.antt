@@ -87,16 +87,16 @@ module _ (kept : ModifierKind → Bool) (later : ModifierKind) where
   abbrev offends : ModifierKind → Bool
   offends k = kept k && forbids later k
 
-  given-forbidden : (n : ℕ) → eqb n 0 ≡ false → (k : ModifierKind) → verdict_of later k ≡ n → forbids later k ≡ true
-  given-forbidden n z k e = not-false (forbids later k) (sym (forbidden_by later k) ∙ ap (λ m. eqb m 0) e ∙ z)
+  given_forbidden : (n : ℕ) → eqb n 0 ≡ false → (k : ModifierKind) → verdict_of later k ≡ n → forbids later k ≡ true
+  given_forbidden n z k e = not-false (forbids later k) (sym (forbidden_by later k) ∙ ap (λ m. eqb m 0) e ∙ z)
 
-  among-offenders : (k : ModifierKind) → kept k ≡ true → forbids later k ≡ true → among k (offenders kept later) ≡ true
-  among-offenders k a b = kept_among offends every_kind k (numbers k).2 (and_from (kept k) (forbids later k) a b)
+  among_offenders : (k : ModifierKind) → kept k ≡ true → forbids later k ≡ true → among k (offenders kept later) ≡ true
+  among_offenders k a b = kept_among offends every_kind k (numbers k).2 (and_from (kept k) (forbids later k) a b)
 
   gives : (n : ℕ) → eqb n 0 ≡ false → Gets n kept later → some_give n later (offenders kept later) ≡ true
   gives n z g =
       any_from (λ k. eqb (verdict_of later k) n) (offenders kept later) g.0
-      (among-offenders g.0 g.1 (given-forbidden n z g.0 g.2)) (eq-eqb (verdict_of later g.0) n g.2)
+      (among_offenders g.0 g.1 (given_forbidden n z g.0 g.2)) (eq-eqb (verdict_of later g.0) n g.2)
 
   given : (n : ℕ) → some_give n later (offenders kept later) ≡ true → Gets n kept later
   given n h =
@@ -104,13 +104,13 @@ module _ (kept : ModifierKind → Bool) (later : ModifierKind) where
       let o = among_passes offends (offenders kept later) m.0 (kept_pass offends every_kind) m.1 in
       (m.0, (and_parts (kept m.0) (forbids later m.0) o).0, eqb-true (verdict_of later m.0) n m.2)
 
-  given-none : (n : ℕ) → (Gets n kept later → ⊥) → some_give n later (offenders kept later) ≡ false
-  given-none n f =
+  given_none : (n : ℕ) → (Gets n kept later → ⊥) → some_give n later (offenders kept later) ≡ false
+  given_none n f =
       ⊎_elim (λ t. absurd (f (given n t))) (λ e. e) (cases_Bool (some_give n later (offenders kept later)))
 
   -- a kind that gets 2 is no accessibility, and so gets no 1
-  not-both : Gets 2 kept later → Gets 1 kept later → ⊥
-  not-both g f =
+  not_both : Gets 2 kept later → Gets 1 kept later → ⊥
+  not_both g f =
       both_ways (is_accessibility later) (not-true (is_accessibility later) (repetition later g.0 g.2).1)
       (both_accessibilities later f.0 f.2).0
 
@@ -147,20 +147,20 @@ module _ (kept : ModifierKind → Bool) (later : ModifierKind) where
             (kept_none offends (λ k. ⊎_elim (λ t. and_right (kept k) (forbids later k) (h k t)) (and_left (kept k) (forbids later k)) (cases_Bool (kept k)))
             every_kind);
         only_then = λ e k t.
-            ⊎_elim (λ f. absurd (some_said later (offenders kept later) k (among-offenders k t f) e)) (λ f. f)
+            ⊎_elim (λ f. absurd (some_said later (offenders kept later) k (among_offenders k t f) e)) (λ f. f)
             (cases_Bool (forbids later k));
         second = λ g.
             said_second later (offenders kept later) g.0
-            (among-offenders g.0 g.1 (given-forbidden 1 refl g.0 g.2)) (gives 1 refl g);
+            (among_offenders g.0 g.1 (given_forbidden 1 refl g.0 g.2)) (gives 1 refl g);
         again = λ g.
             said_again later (offenders kept later) g.0
-            (among-offenders g.0 g.1 (given-forbidden 2 refl g.0 g.2))
-            (given-none 1 (not-both g)) (gives 2 refl g);
+            (among_offenders g.0 g.1 (given_forbidden 2 refl g.0 g.2))
+            (given_none 1 (not_both g)) (gives 2 refl g);
         lowest = λ k h f g.
             let m = kept_first offends every_kind refl k (numbers k).2 (and_from (kept k) (forbids later k) h.0 h.1)
             (λ j l. ⊎_elim (λ t. and_right (kept j) (forbids later j) (h.2 j l t)) (and_left (kept j) (forbids later j)) (cases_Bool (kept j))) in
             ap (said_of later) m.1
-            ∙ said_lowest later k m.0 (ap (some_give 1 later) (sym m.1) ∙ given-none 1 f) (ap (some_give 2 later) (sym m.1) ∙ given-none 2 g);
+            ∙ said_lowest later k m.0 (ap (some_give 1 later) (sym m.1) ∙ given_none 1 f) (ap (some_give 2 later) (sym m.1) ∙ given_none 2 g);
       }
 
 pub order_stands_lem : OrderStands
