@@ -14,11 +14,11 @@ use laws::read_body;
 use list::list::List;
 use reader::TokenReader;
 use records::MemberRecord;
-use refusal::Refusal;
+use refusal::{Opened, Refusal};
 use reports::Report;
 use script::ScriptReader;
 use session::state::{Language, Session, Standing};
-use text::{OpenedText, Text};
+use text::Text;
 use trivia::Trivia;
 
 /// How the session stands in the end, and why the body is refused, if it is.
@@ -37,7 +37,7 @@ pub fn judge(
     ensures { Judged text.now (number_of result.refusal) (standing_says result.standing) (report_board reports.old) (report_board reports.new) (member_board members.old) (member_board members.new) }
 {
     let mut session = Session::new(Language::TypeScript, Context::none());
-    let OpenedText { reader, refused } = Text::new(text);
+    let Opened { reader, refused } = Text::new(text);
     if refused.is_some() {
         return Verdict {
             standing: session.standing(reports, members),

@@ -4,14 +4,14 @@
 #![tactic(auto)]
 
 /// A stretch of the script in bytes, its end not included.
-#[derive(Clone, Copy)]
+#[derive(Clone, Copy, Debug, PartialEq, Eq)]
 pub struct Span {
     pub start: u32,
     pub end: u32,
 }
 
 /// A part of which nothing is told but its span. The rest of a method, of which more is told, is asked for by itself.
-#[derive(Clone, Copy)]
+#[derive(Clone, Copy, Debug, PartialEq, Eq)]
 pub enum Part {
     Decorator,
     Expression,
@@ -21,14 +21,14 @@ pub enum Part {
 }
 
 /// A return annotation, and the type in it.
-#[derive(Clone, Copy)]
+#[derive(Clone, Copy, Debug, PartialEq, Eq)]
 pub struct ReturnType {
     pub annotation: Span,
     pub type_span: Span,
 }
 
 /// What is told of the rest of a method: all that stands after its name.
-#[derive(Clone, Copy)]
+#[derive(Clone, Copy, Debug, PartialEq, Eq)]
 pub struct MethodFacts {
     pub span: Span,
     pub type_parameters: Option<Span>,

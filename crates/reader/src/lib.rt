@@ -13,7 +13,7 @@ ghost use Rattle.token.specs.declared.Token.{Token};
 use token::Token;
 
 /// How far a peek looks past the current token.
-#[derive(Clone, Copy)]
+#[derive(Clone, Copy, Debug, PartialEq, Eq)]
 pub enum Ahead {
     One,
     Two,

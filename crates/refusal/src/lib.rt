@@ -5,10 +5,10 @@
 ghost use Rattle.std.specs.Prelude.{◌≡◌};
 ghost use Rattle.refusal.specs.Numbers.{refusal_number};
 
-#[derive(Clone, Copy)]
+#[derive(Clone, Copy, Debug, PartialEq, Eq)]
 pub enum Refusal {
     /// A table of no token, or of more than 65,536.
-    TokenCount,
+    TokenCount = 1,
     /// A kind or a name code that is not known, or a name code on a token that can have none.
     TokenKind,
     /// The end of input is not last, or not only there.
@@ -36,18 +36,14 @@ impl Refusal {
     pub fn number(self) -> u8
         ensures { result ≡ refusal_number self }
     {
-        match self {
-            Refusal::TokenCount => 1,
-            Refusal::TokenKind => 2,
-            Refusal::EofPlace => 3,
-            Refusal::TokenPlace => 4,
-            Refusal::TextLength => 5,
-            Refusal::TextByte => 6,
-            Refusal::NotFresh => 7,
-            Refusal::NoOpenBrace => 8,
-            Refusal::NotOpen => 9,
-            Refusal::NoMemberPlace => 10,
-            Refusal::NoCloseBrace => 11,
-        }
+        self as u8
     }
+}
+
+/// A reader, and why what it was made over was refused, if it was. Over what was refused, a reader means the end of
+/// input alone.
+#[derive(Drop)]
+pub struct Opened<R> {
+    pub reader: R,
+    pub refused: Option<Refusal>,
 }

@@ -5,7 +5,6 @@
 
 ghost use Rattle.std.specs.Prelude.{◌≤◌, length};
 
-use refusal::Refusal;
 use token::Token;
 
 pub mod laws;
@@ -18,11 +17,4 @@ pub struct Text<'a> {
     current: Token,
     last: u32,
     ghost short: { length text.now ≤ 65536 },
-}
-
-/// A reader over a text, and why the text is refused. Over a refused one the reader gives the end of input alone.
-#[derive(Drop)]
-pub struct OpenedText<'a> {
-    pub reader: Text<'a>,
-    pub refused: Option<Refusal>,
 }

@@ -7,10 +7,10 @@ ghost use Rattle.refusal.specs.Questions.{first_no, number_of};
 ghost use Rattle.text.specs.Lexed.{text_meaning, text_questions, token_at};
 ghost use Rattle.text.specs.Means.{held_tokens, text_last, text_tokens};
 
-use crate::{OpenedText, Text};
+use crate::Text;
 use lexeme::first;
 use reader::{Ahead, TokenReader};
-use refusal::Refusal;
+use refusal::{Opened, Refusal};
 use token::{Token, kind};
 
 const MOST_BYTES: usize = 65_536;
@@ -77,7 +77,7 @@ fn after(text: &[u8], t: Token) -> Token
 
 impl<'a> Text<'a> {
     /// A reader at the first token of the text.
-    pub fn new(text: &'a [u8]) -> OpenedText<'a>
+    pub fn new(text: &'a [u8]) -> Opened<Text<'a>>
         ensures refused { number_of result.refused ≡ first_no (text_questions text.now) }
         ensures tokens { text_tokens result.reader ≡ text_meaning text.now }
         ensures last { text_last result.reader ≡ 0 }
@@ -85,7 +85,7 @@ impl<'a> Text<'a> {
     {
         let refused = refusal_of(text);
         if refused.is_some() {
-            return OpenedText {
+            return Opened {
                 reader: Text {
                     text: &text[0..0],
                     current: EOF_AT_0,
@@ -95,7 +95,7 @@ impl<'a> Text<'a> {
             };
         }
         let current = token_at(text, 0);
-        OpenedText {
+        Opened {
             reader: Text {
                 text,
                 current,

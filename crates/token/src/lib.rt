@@ -3,10 +3,15 @@
 
 #![tactic(auto)]
 
+ghost use Rattle.std.specs.Prelude.{◌≡◌};
+ghost use Rattle.token.specs.Spans.{span_of};
+
+use parts::Span;
+
 pub mod kind;
 
 /// A token by plain numbers: a table that is handed in may hold codes of no kind, which its reader refuses.
-#[derive(Clone, Copy)]
+#[derive(Clone, Copy, Debug, PartialEq, Eq)]
 pub struct Token {
     pub kind: u8,
     pub start: u32,
@@ -15,4 +20,15 @@ pub struct Token {
     pub line_break: bool,
     /// 1 for `constructor`, 2 for `prototype`, else 0; a string counts by its contents, a private name without its `#`.
     pub name: u8,
+}
+
+impl From<Token> for Span {
+    ghost from_gives = { λ t p. p ≡ span_of t };
+
+    fn from(t: Token) -> Span {
+        Span {
+            start: t.start,
+            end: t.end,
+        }
+    }
 }

@@ -12,21 +12,14 @@ use crate::taking::take_many;
 use kinds::context::Context;
 use parts::{MethodFacts, Part, Span};
 use reader::{Ahead, TokenReader};
-use refusal::Refusal;
+use refusal::Opened;
 use script::ScriptReader;
 use table::table::Table;
 use token::Token;
 
-/// A reader, and why the table of tokens was refused, if it was.
-#[derive(Drop)]
-pub struct OpenedScript<'a> {
-    pub reader: Prepared<'a>,
-    pub refused: Option<Refusal>,
-}
-
 impl<'a> Prepared<'a> {
     /// Asks the table's questions of the tokens. The records are asked nothing: each is judged where it is met.
-    pub fn new(tokens: &'a [Token], records: &'a [PartRecord]) -> OpenedScript<'a>
+    pub fn new(tokens: &'a [Token], records: &'a [PartRecord]) -> Opened<Prepared<'a>>
         ensures refused { number_of result.refused ≡ first_no (table_questions tokens.now) }
         ensures tokens { script_tokens result.reader ≡ table_meaning tokens.now }
         ensures last { script_last result.reader ≡ 0 }
@@ -44,7 +37,7 @@ impl<'a> Prepared<'a> {
             left,
             records,
         };
-        OpenedScript {
+        Opened {
             reader,
             refused: opened.refused,
         }

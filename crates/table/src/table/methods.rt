@@ -8,7 +8,7 @@ ghost use Rattle.table.specs.Tables.{table_meaning, table_questions};
 use super::Table;
 use crate::questions::refusal_of;
 use reader::{Ahead, TokenReader};
-use refusal::Refusal;
+use refusal::Opened;
 use token::{Token, kind};
 
 const EOF0: Token = Token {
@@ -18,13 +18,6 @@ const EOF0: Token = Token {
     line_break: false,
     name: 0,
 };
-
-/// A reader, and why the table was refused, if it was.
-#[derive(Drop)]
-pub struct OpenedTable<'a> {
-    pub reader: Table<'a>,
-    pub refused: Option<Refusal>,
-}
 
 // The token at `i`, or the end of input past the table.
 fn token_at(ts: &[Token], i: usize) -> Token
@@ -45,7 +38,7 @@ fn step_from(ts: &[Token], i: usize) -> usize
 }
 
 impl<'a> Table<'a> {
-    pub fn new(tokens: &'a [Token]) -> OpenedTable<'a>
+    pub fn new(tokens: &'a [Token]) -> Opened<Table<'a>>
         ensures refused { number_of result.refused ≡ first_no (table_questions tokens.now) }
         ensures tokens { table_tokens result.reader ≡ table_meaning tokens.now }
         ensures last { table_last result.reader ≡ 0 }
@@ -58,7 +51,7 @@ impl<'a> Table<'a> {
             at,
             taken: 0,
         };
-        OpenedTable { reader, refused }
+        Opened { reader, refused }
     }
 }
 
