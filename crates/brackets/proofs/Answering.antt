@@ -1,5 +1,5 @@
 -- How readings that were made one after another answer for the whole.
-use Rattle.std.proofs.Common.{◌≡◌, ℕ, ◌<◌, Bool, true, false, cond, eqb, List, length, IsErrAnd, Ok, Err, Result, sym, refl, ap, ◌∙◌, subst, add-zero}
+use Rattle.std.proofs.Common.{◌≡◌, ℕ, ◌<◌, Bool, true, false, cond, List, length, IsErrAnd, Ok, Err, Result, sym, refl, ap, ◌∙◌, subst, add-zero}
 use Rattle.std.proofs.lemmas.Result.{err_from_is_err_and}
 use Rattle.parts.specs.declared.Part.{Part}
 use Rattle.parts.specs.declared.Span.{Span}
@@ -8,29 +8,32 @@ use Rattle.reader.specs.Scenes.{Scene, past, past_one}
 use Rattle.reader.specs.Tokens.{ahead, head, is_eof, last_after, last_end, next}
 use Rattle.reader.specs.Sound.{sound}
 use Rattle.reader.proofs.Taking.{last_any, past_both, sound_ahead}
-use Rattle.token.specs.Kinds.{k_eof, k_rcurly, k_semicolon}
+use Rattle.token.specs.Spans.{span_of}
 use Rattle.token.specs.declared.Token.{Token}
-use Rattle.brackets.specs.Format.{part_of, semicolon_of}
-use Rattle.brackets.specs.Readings.{Answered, Reading, and_then, give, one, place, proceed, refuse, span_over, spanned, taking}
+use Rattle.brackets.specs.Format.{part_of}
+use Rattle.brackets.specs.Readings.{Answered, Reading, and_then, give, one, proceed, refuse, span_over, spanned, taking}
 
 -- what advance ensures, as one equation
 pub moved : (ts : List Token) (n : ℕ) {a : Answers} {ts' : List Token} {n' : ℕ} {a' : Answers} → ts' ≡ next ts → n' ≡ last_end ts n → a' ≡ a → ◌≡◌ {A = Scene} (record { tokens = ts'; last = n'; answers = a' }) (past_one (record { tokens = ts; last = n; answers = a }))
 moved ts n p q r = λ i. record { tokens = p i; last = q i; answers = r i }
 
-pub one_fits : (fits : ℕ → Bool) (s s' : Scene) (t : Token) → t ≡ head s.tokens → fits t.kind ≡ true → s' ≡ past_one s → Answered (one fits s.tokens) s (Ok t) s'
+pub one_fits : (fits : ℕ → Bool) (s s' : Scene) (t : Token) → t ≡ head s.tokens → fits t.kind.code ≡ true → s' ≡ past_one s → Answered (one fits s.tokens) s (Ok t) s'
 one_fits fits s s' t e f m =
-    let h : fits (head s.tokens).kind ≡ true = ap (λ u. fits u.kind) (sym e) ∙ f in
+    let h : fits (head s.tokens).kind.code ≡ true = ap (λ u. fits u.kind.code) (sym e) ∙ f in
     let a : ◌≡◌ {A = Answer Token} (record { result = Ok (head s.tokens); count = 1 }) (one fits s.tokens) = rw h in
     record { value = ap Ok e ∙ ap (λ x. x.result) a; after = m ∙ ap (λ x. past x.count s) a }
 
-pub one_refused : (fits : ℕ → Bool) (s : Scene) (t : Token) → t ≡ head s.tokens → fits t.kind ≡ false → Answered (one fits s.tokens) s (Err (place t)) s
+pub one_refused : (fits : ℕ → Bool) (s : Scene) (t : Token) → t ≡ head s.tokens → fits t.kind.code ≡ false → Answered (one fits s.tokens) s (Err (span_of t)) s
 one_refused fits s t e f =
-    let h : fits (head s.tokens).kind ≡ false = ap (λ u. fits u.kind) (sym e) ∙ f in
+    let h : fits (head s.tokens).kind.code ≡ false = ap (λ u. fits u.kind.code) (sym e) ∙ f in
     let a : ◌≡◌ {A = Answer Token} (refuse s.tokens) (one fits s.tokens) = rw h in
-    record { value = ap (λ u. Err (place u)) e ∙ ap (λ x. x.result) a; after = ap (λ x. past x.count s) a }
+    record { value = ap (λ u. Err (span_of u)) e ∙ ap (λ x. x.result) a; after = ap (λ x. past x.count s) a }
 
 pub given : {F : Type 0} (x : F) (s : Scene) → Answered (give x s.tokens) s (Ok x) s
 given x s = record { value = refl; after = refl }
+
+pub given_as : {F : Type 0} {x : F} (s : Scene) {r : Result F Span} → r ≡ Ok x → Answered (give x s.tokens) s r s
+given_as s e = record { value = e; after = refl }
 
 -- tokens that were taken
 pub took : (front : List Token → List Token) (s : Scene) {s' : Scene} → s' ≡ past (length (front s.tokens)) s → Answered (taking front s.tokens) s (Ok (front s.tokens)) s'
@@ -58,16 +61,17 @@ module _ {F G : Type 0} (f : Reading F) (g : F → Reading G) where
       record { value = ap (λ a. a.result) p; after = v.after ∙ ap (λ a. past a.count s) p }
 
 module _ {F : Type 0} (f : Reading (Span → F)) where
-  pub spans : {s s₁ : Scene} {x : Span → F} → Answered (f s.tokens) s (Ok x) s₁ → is_eof (head s.tokens) ≡ false → 0 < (f s.tokens).count → (t : Token) → t ≡ head s.tokens → (e : ℕ) → e ≡ s₁.last → Answered (spanned f s.tokens) s (Ok (x (record { start = t.start; end = e }))) s₁
+  pub spans : {s s₁ : Scene} {x : Span → F} → Answered (f s.tokens) s (Ok x) s₁ → is_eof (head s.tokens) ≡ false → 0 < (f s.tokens).count → (t : Token) → t ≡ head s.tokens → (p : Span) → p ≡ record { start = t.start; end = s₁.last } → Answered (spanned f s.tokens) s (Ok (x p)) s₁
   unfolding spanned
-  spans {s} {s₁} {x} v h k t p e q =
+  spans {s} {s₁} {x} v h k t e p q =
       let ts = s.tokens in
       let n = (f ts).count in
       let y : (Span → F) → Answer F = λ z. give (z (span_over n ts)) ts in
       let a : proceed (Ok x) n y ≡ spanned f ts = ap (λ r. proceed r n y) v.value in
-      let l : e ≡ last_after n ts 0 = q ∙ ap (λ z. z.last) v.after ∙ last_any n ts s.last 0 k h in
+      let l : s₁.last ≡ last_after n ts 0 = ap (λ z. z.last) v.after ∙ last_any n ts s.last 0 k h in
+      let m : p ≡ span_over n ts = q ∙ (λ i. record { start = (e i).start; end = l i }) in
       record {
-        value = (λ i. Ok (x (record { start = (p i).start; end = l i }))) ∙ ap (λ z. z.result) a;
+        value = ap (λ z. Ok (x z)) m ∙ ap (λ z. z.result) a;
         after = v.after ∙ ap (λ j. past j s) (sym (add-zero n)) ∙ ap (λ z. past z.count s) a;
       }
 
@@ -79,16 +83,6 @@ module _ {F : Type 0} (f : Reading (Span → F)) where
       let y : (Span → F) → Answer F = λ z. give (z (span_over n ts)) ts in
       let a : proceed (Err e) n y ≡ spanned f ts = ap (λ r. proceed r n y) v.value in
       record { value = ap (λ z. z.result) a; after = v.after ∙ ap (λ z. past z.count s) a }
-
-pub no_semicolon : (s : Scene) (t : Token) → t ≡ head s.tokens → eqb t.kind k_semicolon ≡ false → eqb t.kind k_rcurly ≡ false → eqb t.kind k_eof ≡ false → t.line_break ≡ false → Answered (semicolon_of s.tokens) s (Err (place t)) s
-no_semicolon s t e a b c d =
-    let u = head s.tokens in
-    let a' : eqb u.kind k_semicolon ≡ false = ap (λ x. eqb x.kind k_semicolon) (sym e) ∙ a in
-    let b' : eqb u.kind k_rcurly ≡ false = ap (λ x. eqb x.kind k_rcurly) (sym e) ∙ b in
-    let c' : eqb u.kind k_eof ≡ false = ap (λ x. eqb x.kind k_eof) (sym e) ∙ c in
-    let d' : u.line_break ≡ false = ap (λ x. x.line_break) (sym e) ∙ d in
-    let p : ◌≡◌ {A = Answer (Unit {0})} (refuse s.tokens) (semicolon_of s.tokens) = rw (a', b', c', d') in
-    record { value = ap (λ x. Err (place x)) e ∙ ap (λ x. x.result) p; after = ap (λ x. past x.count s) p }
 
 -- the exit of a `?`
 pub refused_as : {F : Type 0} {a : Answer F} {s s' : Scene} {e : Span} (r : Result F Span) → IsErrAnd r (λ y. y ≡ e) → Answered a s (Err e) s' → Answered a s r s'

@@ -26,25 +26,25 @@ more_than_one (t ∷ (u ∷ us)) h e = omega arith
 
 -- a kind that fits is not Eof's
 pub within_one : (fits : ℕ → Bool) → ((k : ℕ) → fits k ≡ true → eqb k k_eof ≡ false) → Within (one fits)
-within_one fits n = record { bound = λ ts h. by ts h (fits (head ts).kind) refl }
+within_one fits n = record { bound = λ ts h. by ts h (fits (head ts).kind.code) refl }
   where
-    by : (ts : List Token) → ended ts ≡ true → (b : Bool) → fits (head ts).kind ≡ b → (one fits ts).count < length ts
-    by ts h true e = rw e (more_than_one ts h (n (head ts).kind e))
+    by : (ts : List Token) → ended ts ≡ true → (b : Bool) → fits (head ts).kind.code ≡ b → (one fits ts).count < length ts
+    by ts h true e = rw e (more_than_one ts h (n (head ts).kind.code e))
     by ts h false e = rw e (ended_some ts h)
 
 pub takes_one : (fits : ℕ → Bool) → TakesSome (one fits)
-takes_one fits = record { some = λ ts. by ts (fits (head ts).kind) refl }
+takes_one fits = record { some = λ ts. by ts (fits (head ts).kind.code) refl }
   where
-    by : (ts : List Token) (b : Bool) → fits (head ts).kind ≡ b → is_ok (one fits ts).result ≡ true → 0 < (one fits ts).count
+    by : (ts : List Token) (b : Bool) → fits (head ts).kind.code ≡ b → is_ok (one fits ts).result ≡ true → 0 < (one fits ts).count
     by ts true e h = rw e (omega arith)
     by ts false e h = let z : ◌≡◌ {A = Bool} false true = rw e at h in grind arith
 
 -- Eof stops
 pub within_up_to : (stops : ℕ → Token → Bool) → ((d : ℕ) (t : Token) → is_eof t ≡ true → stops d t ≡ true) → (d : ℕ) (ts : List Token) → ended ts ≡ true → length (up_to stops d ts) < length ts
 within_up_to stops n d [] h = grind arith
-within_up_to stops n d (t ∷ ts) h = by (is_eof t) (stops d t) refl refl (λ r. within_up_to stops n (deeper d t.kind) ts r)
+within_up_to stops n d (t ∷ ts) h = by (is_eof t) (stops d t) refl refl (λ r. within_up_to stops n (deeper d t.kind.code) ts r)
   where
-    by : (e b : Bool) → is_eof t ≡ e → stops d t ≡ b → (ended ts ≡ true → length (up_to stops (deeper d t.kind) ts) < length ts) → length (up_to stops d (t ∷ ts)) < length (t ∷ ts)
+    by : (e b : Bool) → is_eof t ≡ e → stops d t ≡ b → (ended ts ≡ true → length (up_to stops (deeper d t.kind.code) ts) < length ts) → length (up_to stops d (t ∷ ts)) < length (t ∷ ts)
     by e true p q ih = rw q (omega arith)
     by true false p q ih = let z : ◌≡◌ {A = Bool} false true = sym q ∙ n d t p in grind arith
     by false false p q ih = let r : ended ts ≡ true = rw p at h in rw q (omega (arith, ih r))
@@ -103,7 +103,7 @@ module _ {F : Type 0} {f : Reading (Span → F)} where
       by ts (Err e) p h = grind arith
 
 -- facts that tell the span, of tokens that were taken from a list that ends at its Eof
-pub told_span : {F : Type 0} (f : Reading (Span → F)) → Within f → TakesSome f → {s s₁ : Scene} {x : Span → F} → Answered (f s.tokens) s (Ok x) s₁ → ended s.tokens ≡ true → (t : Token) → t ≡ head s.tokens → (e : ℕ) → e ≡ s₁.last → Answered (spanned f s.tokens) s (Ok (x (record { start = t.start; end = e }))) s₁
-told_span f a b {s} v h t p e q =
+pub told_span : {F : Type 0} (f : Reading (Span → F)) → Within f → TakesSome f → {s s₁ : Scene} {x : Span → F} → Answered (f s.tokens) s (Ok x) s₁ → ended s.tokens ≡ true → (t : Token) → t ≡ head s.tokens → (p : Span) → p ≡ record { start = t.start; end = s₁.last } → Answered (spanned f s.tokens) s (Ok (x p)) s₁
+told_span f a b {s} v h t e p q =
     let k : 0 < (f s.tokens).count = b.some s.tokens (ap is_ok (sym v.value)) in
-    spans f v (taken_some (f s.tokens).count s.tokens h k (a.bound s.tokens h)) k t p e q
+    spans f v (taken_some (f s.tokens).count s.tokens h k (a.bound s.tokens h)) k t e p q

@@ -2,6 +2,7 @@
 use Rattle.std.proofs.Common.{◌≡◌, ℕ, ◌+◌, ◌-◌, ◌^◌, ◌<◌, Bool, true, false, not, eqb, List, [], ◌∷◌, length, is_some, is_ok, Some, None, Ok, Err, Option, Result, refl, ap, subst, arith}
 use native.Mathlib.Nat.{min-le_left}
 use Rattle.std.proofs.lemmas.Bool.Decides.{nat_tests}
+use Rattle.std.specs.Option.{option_map}
 use Rattle.parts.specs.declared.Part.{Part}
 use Rattle.parts.specs.declared.Part.TheVariants.{Block, Decorator, Expression, IndexRest, TypeAnnotation}
 use Rattle.parts.specs.declared.Span.{Span}
@@ -12,8 +13,9 @@ use Rattle.token.specs.Kinds.{is_identifier_name, k_at, k_colon, k_eof, k_langle
 use Rattle.token.specs.declared.Token.{Token}
 use Rattle.brackets.specs.Depth.{at_closer, capped, closes, deeper, inside}
 use Rattle.brackets.specs.Format.{annotation_of, body_of, bracket_answers, decorator_of, ends_expression, ends_later, expression_told, goes_on, group_of, index_told, inserts_before, method_of, method_told, parameter_list_of, part_of, semicolon_of, type_of, type_parameters_of}
-use Rattle.brackets.specs.Parameters.{filled, first, items_of, listed, one_if, rest_of, span_of, stretches, this_of, without_this}
+use Rattle.brackets.specs.Parameters.{filled, first, item_of, items_of, listed, one_if, rest_of, span_of, stretches, this_of, without_this}
 use Rattle.brackets.specs.Readings.{Reading, and_then, give, name, optional, proceed, span_over, spanned, taking, token}
+use Rattle.brackets.specs.declared.parameters.Item.{Item}
 use Rattle.brackets.specs.declared.parameters.Parameters.{Parameters}
 use Rattle.brackets.proofs.Bounds.{TakesSome, Within, more_than_one, takes_first, takes_later, takes_one, takes_spanned, within_give, within_if, within_one, within_spanned, within_then, within_up_to}
 
@@ -64,7 +66,7 @@ begins : (k : ℕ) → not (ends_expression 0 k) ≡ true → eqb k k_eof ≡ fa
 begins k h = grind (arith, nat_tests)
 
 within_on : (t : Token) → Within (taking (goes_on t))
-within_on t = record { bound = within_up_to ends_later (λ d u e. rw e) (deeper 0 t.kind) }
+within_on t = record { bound = within_up_to ends_later (λ d u e. rw e) (deeper 0 t.kind.code) }
 
 pub expression_within : Within expression_told
 expression_within = within_then (within_one (λ k. not (ends_expression 0 k)) begins) (λ t. within_then (within_on t) (λ _. within_give _))
@@ -73,9 +75,9 @@ pub expression_takes : TakesSome expression_told
 expression_takes = takes_first _ (takes_one (λ k. not (ends_expression 0 k)))
 
 pub semicolon_within : Within semicolon_of
-semicolon_within = record { bound = λ ts h. by ts h (eqb (head ts).kind k_semicolon) (inserts_before (head ts)) refl refl }
+semicolon_within = record { bound = λ ts h. by ts h (eqb (head ts).kind.code k_semicolon) (inserts_before (head ts)) refl refl }
   where
-    by : (ts : List Token) → ended ts ≡ true → (a b : Bool) → eqb (head ts).kind k_semicolon ≡ a → inserts_before (head ts) ≡ b → (semicolon_of ts).count < length ts
+    by : (ts : List Token) → ended ts ≡ true → (a b : Bool) → eqb (head ts).kind.code k_semicolon ≡ a → inserts_before (head ts) ≡ b → (semicolon_of ts).count < length ts
     by ts h true b e f = let n : is_eof (head ts) ≡ false = grind (arith, nat_tests) in rw e (more_than_one ts h n)
     by ts h false true e f = rw (e, f) (ended_some ts h)
     by ts h false false e f = rw (e, f) (ended_some ts h)
@@ -94,7 +96,7 @@ list_takes : TakesSome parameter_list_of
 list_takes = takes_first _ (takes_one (λ x. eqb x k_lparen))
 
 optional_within : {F : Type 0} (k : ℕ) {f : Reading F} → Within f → Within (optional k f)
-optional_within k a = within_if (λ ts. eqb (head ts).kind k) (within_then a (λ x. within_give _)) (within_give _)
+optional_within k a = within_if (λ ts. eqb (head ts).kind.code k) (within_then a (λ x. within_give _)) (within_give _)
 
 type_parameters_within : Within type_parameters_of
 type_parameters_within =
@@ -102,7 +104,7 @@ type_parameters_within =
 
 body_within : Within body_of
 body_within =
-    within_if (λ ts. eqb (head ts).kind k_lcurly) (within_then (group_within k_lcurly refl) (λ block. within_give _)) (within_then semicolon_within (λ _. within_give _))
+    within_if (λ ts. eqb (head ts).kind.code k_lcurly) (within_then (group_within k_lcurly refl) (λ block. within_give _)) (within_then semicolon_within (λ _. within_give _))
 
 pub method_within : Within method_told
 method_within =
@@ -165,7 +167,7 @@ capped_one n h = omega (arith, min-le_left n (2 ^ 32 - 1))
 first_item_lem : (this : Option (List Token)) (ss : List (List Token)) → FirstItem (listed this ss)
 first_item_lem this ss = by (items_of ss) (rest_of ss)
   where
-    by : (is : List (List Token)) (r : Option (List Token)) → capped (length is + one_if r) ≡ 1 → span_of r ≡ None → is_some (span_of (first is)) ≡ true
+    by : (is : List (List Token)) (r : Option (List Token)) → capped (length is + one_if r) ≡ 1 → span_of r ≡ None → is_some (item_of (first is)) ≡ true
     by (i ∷ is) r h e = refl
     by [] None h e = absurd (omega (arith, capped_one (length {A = List Token} [] + 0) h))
     by [] (Some s) h e = let z : ◌≡◌ {A = ℕ} 0 1 = cc in absurd (omega arith)
@@ -174,9 +176,13 @@ list_first : Tells (λ l. FirstItem l.parameters) parameter_list_of
 list_first =
     tells_then anything (λ opener _. tells_then anything (λ between _. tells_then anything (λ closer _. tells_give _ (first_item_lem (this_of (stretches 0 between)) (filled (without_this (stretches 0 between)))))))
 
+span_there : (o : Option Item) → is_some o ≡ true → is_some (option_map (λ item. item.span) o) ≡ true
+span_there None h = h
+span_there (Some item) h = refl
+
 method_first : Tells Itemed method_of
 method_first =
-    tells_spanned (tells_then anything (λ generics _. tells_then list_first (λ list h. tells_then anything (λ type _. tells_then anything (λ body _. tells_give _ (λ span. h))))))
+    tells_spanned (tells_then anything (λ generics _. tells_then list_first (λ list h. tells_then anything (λ type _. tells_then anything (λ body _. tells_give _ (λ span e f. span_there list.parameters.first_item (h e f)))))))
 
 pub lawful : Lawful bracket_answers
 lawful =

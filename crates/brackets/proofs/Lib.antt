@@ -1,6 +1,4 @@
 pub mod Answering
-pub mod Walking
 pub mod Bounds
-pub mod Stretching
 pub mod Listing
 pub mod Laws

@@ -22,11 +22,16 @@ deeper d k = cond (opens k) (capped (d + 1)) (cond (closes k) (d - 1) d)
 -- the tokens before the first one at which `stops` holds, which is asked of each with its depth, the first at depth d
 abbrev pub up_to : (ℕ → Token → Bool) → ℕ → List Token → List Token
 up_to stops d [] = []
-up_to stops d (t ∷ ts) = cond (stops d t) [] (t ∷ up_to stops (deeper d t.kind) ts)
+up_to stops d (t ∷ ts) = cond (stops d t) [] (t ∷ up_to stops (deeper d t.kind.code) ts)
+
+-- what a fold makes of tokens, each told with its depth, the first at depth d
+abbrev pub folded : {S : Type 0} → (ℕ → Token → S → S) → ℕ → S → List Token → S
+folded step d s [] = s
+folded step d s (t ∷ ts) = folded step (deeper d t.kind.code) (step d t s) ts
 
 -- Eof, or the closer of the brackets around depth 0
 abbrev pub at_closer : ℕ → Token → Bool
-at_closer d t = is_eof t || (d == 0 && closes t.kind)
+at_closer d t = is_eof t || (d == 0 && closes t.kind.code)
 
 -- the tokens inside brackets whose opener was just taken
 abbrev pub inside : List Token → List Token

@@ -1,6 +1,7 @@
 -- The bracket format: where each part of a class member ends, told by brackets alone. Contexts are ignored. A refusal is
 -- at the first token that does not fit, Eof among them, and takes those before it.
-use Rattle.std.specs.Prelude.{ℕ, Bool, cond, not, ◌&&◌, ◌||◌, List, [], ◌∷◌, Some, None, Ok, Option, ◌==◌}
+use Rattle.std.specs.Prelude.{ℕ, Bool, false, cond, not, ◌&&◌, ◌||◌, List, [], ◌∷◌, Some, None, Ok, Option, ◌==◌}
+use Rattle.std.specs.Option.{option_map}
 use Rattle.parts.specs.declared.MethodFacts.{MethodFacts}
 use Rattle.parts.specs.declared.Part.{Part}
 use Rattle.parts.specs.declared.Part.TheVariants.{Block, Decorator, Expression, IndexRest, TypeAnnotation}
@@ -9,10 +10,12 @@ use Rattle.parts.specs.declared.Span.{Span}
 use Rattle.reader.specs.Answers.{Answers}
 use Rattle.reader.specs.Tokens.{ahead, head}
 use Rattle.token.specs.Kinds.{among, is_identifier_name, k_at, k_colon, k_comma, k_eof, k_langle, k_lbrack, k_lcurly, k_lparen, k_rangle, k_rcurly, k_semicolon}
+use Rattle.token.specs.Spans.{span_of}
 use Rattle.token.specs.declared.Token.{Token}
 use Rattle.brackets.specs.Depth.{closes, deeper, inside, up_to}
 use Rattle.brackets.specs.Parameters.{parameters_in}
-use Rattle.brackets.specs.Readings.{Reading, and_then, from_to, give, name, one, optional, place, refuse, spanned, taking, token}
+use Rattle.brackets.specs.Readings.{Reading, and_then, from_to, give, name, one, optional, refuse, spanned, taking, token}
+use Rattle.brackets.specs.declared.parameters.Item.{Item}
 use Rattle.brackets.specs.declared.parameters.ParameterList.{ParameterList}
 
 -- `@` and a name
@@ -21,7 +24,7 @@ decorator_of = and_then (token k_at) (λ sign. and_then name (λ word. give (fro
 
 -- `:` and a name
 abbrev pub type_of : Reading ReturnType
-type_of = and_then (token k_colon) (λ colon. and_then name (λ word. give (record { annotation = from_to colon word; type_span = place word })))
+type_of = and_then (token k_colon) (λ colon. and_then name (λ word. give (record { annotation = from_to colon word; type_span = span_of word })))
 
 -- the part of which the span alone is told
 abbrev pub annotation_of : Reading Span
@@ -41,11 +44,11 @@ ends_expression d k = k == k_eof || (d == 0 && (among k (k_semicolon ∷ k_comma
 
 -- after its first token there also at a line break
 abbrev pub ends_later : ℕ → Token → Bool
-ends_later d t = ends_expression d t.kind || (d == 0 && t.line_break)
+ends_later d t = ends_expression d t.kind.code || (d == 0 && t.line_break)
 
 -- the tokens of an expression after the first
 abbrev pub goes_on : Token → List Token → List Token
-goes_on t ts = up_to ends_later (deeper 0 t.kind) ts
+goes_on t ts = up_to ends_later (deeper 0 t.kind.code) ts
 
 -- a first token, and those that go on with it
 abbrev pub expression_told : Reading (Span → Span)
@@ -56,11 +59,11 @@ expression_of = spanned expression_told
 
 -- whether a semicolon can be inserted before a token
 abbrev pub inserts_before : Token → Bool
-inserts_before t = among t.kind (k_rcurly ∷ k_eof ∷ []) || t.line_break
+inserts_before t = among t.kind.code (k_rcurly ∷ k_eof ∷ []) || t.line_break
 
 -- a semicolon: one that is there is taken, and one that can be inserted takes nothing
 abbrev pub semicolon_of : Reading (Unit {0})
-semicolon_of ts = cond ((head ts).kind == k_semicolon) (record { result = Ok tt; count = 1 }) (cond (inserts_before (head ts)) (give tt ts) (refuse ts))
+semicolon_of ts = cond ((head ts).kind.code == k_semicolon) (record { result = Ok tt; count = 1 }) (cond (inserts_before (head ts)) (give tt ts) (refuse ts))
 
 -- `<`, a name and `>`
 abbrev pub type_parameters_of : Reading Span
@@ -76,7 +79,12 @@ parameter_list_of =
 
 -- a body, of which the start is told, or a semicolon in its place
 abbrev pub body_of : Reading (Option ℕ)
-body_of ts = cond ((head ts).kind == k_lcurly) (and_then block_of (λ block. give (Some block.start)) ts) (and_then semicolon_of (λ _. give None) ts)
+body_of ts = cond ((head ts).kind.code == k_lcurly) (and_then block_of (λ block. give (Some block.start)) ts) (and_then semicolon_of (λ _. give None) ts)
+
+-- whether a fact holds of an item, if there is one
+abbrev pub holds_of : (Item → Bool) → Option Item → Bool
+holds_of fact None = false
+holds_of fact (Some item) = fact item
 
 abbrev pub method_facts : Option Span → ParameterList → Option ReturnType → Option ℕ → Span → MethodFacts
 method_facts generics list type body span =
@@ -85,9 +93,9 @@ method_facts generics list type body span =
       type_parameters = generics;
       parameters = list.span;
       count = list.parameters.count;
-      first_item = list.parameters.first_item;
-      first_optional = list.parameters.first_optional;
-      first_initializer = list.parameters.first_initializer;
+      first_item = option_map (λ item. item.span) list.parameters.first_item;
+      first_optional = holds_of (λ item. item.optional) list.parameters.first_item;
+      first_initializer = holds_of (λ item. item.initializer) list.parameters.first_item;
       rest = list.parameters.rest;
       this_param = list.parameters.this_param;
       return_type = type;
@@ -115,7 +123,7 @@ index_of = spanned index_told
 
 -- an index signature starts at `[`, a name and `:`
 abbrev pub starts_index : List Token → Bool
-starts_index ts = (head ts).kind == k_lbrack && is_identifier_name (head (ahead 1 ts)).kind && (head (ahead 2 ts)).kind == k_colon
+starts_index ts = (head ts).kind.code == k_lbrack && is_identifier_name (head (ahead 1 ts)).kind.code && (head (ahead 2 ts)).kind.code == k_colon
 
 abbrev pub part_of : Part → Reading Span
 part_of Decorator = decorator_of

@@ -1,4 +1,5 @@
 pub mod Depth
+pub mod Walks
 pub mod Readings
 pub mod Parameters
 pub mod Format

@@ -5,12 +5,13 @@ use Rattle.reader.specs.Tokens.{head, is_nil}
 use Rattle.token.specs.Kinds.{k_comma, k_dot3, k_eq, k_question, k_this}
 use Rattle.token.specs.declared.Token.{Token}
 use Rattle.brackets.specs.Depth.{capped, deeper}
+use Rattle.brackets.specs.declared.parameters.Item.{Item}
 use Rattle.brackets.specs.declared.parameters.Parameters.{Parameters}
 
 -- a token of kind k that stands at depth 0, among tokens of which the first stands at depth d
 abbrev pub own : ℕ → ℕ → List Token → Bool
 own k d [] = false
-own k d (t ∷ ts) = (d == 0 && t.kind == k) || own k (deeper d t.kind) ts
+own k d (t ∷ ts) = (d == 0 && t.kind.code == k) || own k (deeper d t.kind.code) ts
 
 -- a token before the first stretch
 abbrev pub onto : Token → List (List Token) → List (List Token)
@@ -21,7 +22,7 @@ onto t (s ∷ ss) = (t ∷ s) ∷ ss
 abbrev pub stretches : ℕ → List Token → List (List Token)
 stretches d [] = [] ∷ []
 stretches d (t ∷ ts) =
-    cond (d == 0 && t.kind == k_comma) ([] ∷ stretches (deeper d t.kind) ts) (onto t (stretches (deeper d t.kind) ts))
+    cond (d == 0 && t.kind.code == k_comma) ([] ∷ stretches (deeper d t.kind.code) ts) (onto t (stretches (deeper d t.kind.code) ts))
 
 -- the stretches that are not empty
 abbrev pub filled : List (List Token) → List (List Token)
@@ -29,7 +30,7 @@ filled [] = []
 filled (s ∷ ss) = cond (is_nil s) (filled ss) (s ∷ filled ss)
 
 abbrev pub begins_with : ℕ → List Token → Bool
-begins_with k s = (head s).kind == k
+begins_with k s = (head s).kind.code == k
 
 -- the very first stretch, if it begins with `this`
 abbrev pub this_of : List (List Token) → Option (List Token)
@@ -64,10 +65,11 @@ abbrev pub span_of : Option (List Token) → Option Span
 span_of None = None
 span_of (Some s) = Some (record { start = (head s).start; end = end_of 0 s })
 
--- a token of kind k that is the stretch's own
-abbrev pub has_own : ℕ → Option (List Token) → Bool
-has_own k None = false
-has_own k (Some s) = own k 0 s
+-- what is told of an item
+abbrev pub item_of : Option (List Token) → Option Item
+item_of None = None
+item_of (Some s) =
+    Some (record { span = record { start = (head s).start; end = end_of 0 s }; optional = own k_question 0 s; initializer = own k_eq 0 s })
 
 abbrev pub one_if : Option (List Token) → ℕ
 one_if None = 0
@@ -80,9 +82,7 @@ listed this ss =
     record {
       this_param = span_of this;
       rest = span_of (rest_of ss);
-      first_item = span_of (first (items_of ss));
-      first_optional = has_own k_question (first (items_of ss));
-      first_initializer = has_own k_eq (first (items_of ss));
+      first_item = item_of (first (items_of ss));
       count = capped (length (items_of ss) + one_if (rest_of ss));
     }
 

@@ -1,25 +1,26 @@
 //! Parts whose end is told by depth.
 
-ghost use Rattle.std.specs.Prelude.{◌≡◌, length};
-ghost use Rattle.reader.specs.Scenes.{past, scene};
-ghost use Rattle.brackets.specs.Depth.{deeper as deeper_at, inside, opens as opens_at, up_to};
+ghost use Rattle.std.specs.Prelude.{◌≡◌, ℕ, Bool};
+ghost use Rattle.token.specs.declared.Token.{Token};
+ghost use Rattle.brackets.specs.Depth.{deeper as deeper_at, folded, inside, opens as opens_at, up_to};
 ghost use Rattle.brackets.specs.Format.{ends_expression, ends_later, expression_of, group_of};
-ghost use Rattle.brackets.specs.Readings.{Answered};
+ghost use Rattle.brackets.specs.Readings.{Reads, Skips};
+ghost use Rattle.brackets.specs.Walks.{EndsAtEof, EndsWhere, StepsBy};
 
-use crate::steps::{closer, closes, expect, place};
+use crate::steps::{closer, closes, expect, from_to, since};
 use parts::Span;
 use reader::TokenReader;
-use token::kind;
+use token::{Kind, Token};
 
-fn opens(kind: u8) -> bool
-    ensures { result ≡ opens_at kind }
+fn opens(kind: Kind) -> bool
+    ensures { result ≡ opens_at kind.code }
 {
-    kind == kind::LPAREN || kind == kind::LBRACK || kind == kind::LCURLY
+    matches!(kind, Kind::LPAREN | Kind::LBRACK | Kind::LCURLY)
 }
 
-/// The depth after a token of this kind.
-pub fn deeper(depth: u32, kind: u8) -> u32
-    ensures { result ≡ deeper_at depth kind }
+// The depth after a token of this kind.
+fn deeper(depth: u32, kind: Kind) -> u32
+    ensures { result ≡ deeper_at depth kind.code }
 {
     if opens(kind) {
         depth.saturating_add(1)
@@ -30,67 +31,91 @@ pub fn deeper(depth: u32, kind: u8) -> u32
     }
 }
 
-// Takes the tokens before the closer of the brackets around the current one, or before the end of input.
-fn skip_inside<R: TokenReader>(r: &mut R)
-    ensures { scene R.TokenReader r.new ≡ past (length (inside (R.TokenReader.tokens r.old))) (scene R.TokenReader r.old) }
-{
-    let mut depth = 0;
-    loop {
-        let kind = r.current().kind;
-        if kind == kind::EOF || depth == 0 && closes(kind) {
-            return;
-        }
-        depth = deeper(depth, kind);
-        r.advance();
-    }
-}
+/// Takes the tokens before the first at which `ends` holds, and folds them. Each is told with its depth, the first with
+/// `depth`.
+pub fn fold_until<R: TokenReader, S, E: Fn(u32, Token) -> bool, F: Fn(S, u32, Token) -> S>(
+    r: &mut R,
+    depth: u32,
+    start: S,
+    ends: E,
+    with: F,
+) -> S
+    requires ends { E.IsAlwaysCallable ends }
+    requires with { F.IsAlwaysCallable with }
+    requires at_eof { EndsAtEof (E.post ends) }
 
-/// From a bracket of this kind to its closer.
-pub fn group<R: TokenReader>(r: &mut R, kind: u8) -> Result<Span, Span>
-    ensures { Answered (group_of kind (R.TokenReader.tokens r.old)) (scene R.TokenReader r.old) result (scene R.TokenReader r.new) }
-{
-    let opener = expect(r, kind)?;
-    skip_inside(r);
-    let closer = closer(r)?;
-    Ok(Span {
-        start: opener.start,
-        end: closer.end,
-    })
-}
-
-fn ends_expression(depth: u32, kind: u8) -> bool
-    ensures { result ≡ ends_expression depth kind }
-{
-    kind == kind::EOF
-        || depth == 0 && (kind == kind::SEMICOLON || kind == kind::COMMA || closes(kind))
-}
-
-// Takes the tokens of an expression after its first, which left this depth.
-fn skip_expression<R: TokenReader>(r: &mut R, depth: u32)
-    ensures { scene R.TokenReader r.new ≡ past (length (up_to ends_later depth (R.TokenReader.tokens r.old))) (scene R.TokenReader r.old) }
+    ensures value { (stops : ℕ → Token → Bool) (step : ℕ → Token → S → S) → EndsWhere stops (E.post ends) → StepsBy step (F.post with) → result ≡ folded step depth start (up_to stops depth (R.TokenReader.tokens r.old)) }
+    ensures after { (stops : ℕ → Token → Bool) → EndsWhere stops (E.post ends) → Skips R.TokenReader (up_to stops depth) r.old r.new }
 {
     let mut depth = depth;
+    let mut told = start;
     loop {
         let t = r.current();
-        if ends_expression(depth, t.kind) || depth == 0 && t.line_break {
-            return;
+        if ends(depth, t) {
+            return told;
         }
+        told = with(told, depth, t);
         depth = deeper(depth, t.kind);
         r.advance();
     }
 }
 
+// The same with nothing told.
+fn skip_until<R: TokenReader, E: Fn(u32, Token) -> bool>(r: &mut R, depth: u32, ends: E)
+    requires ends { E.IsAlwaysCallable ends }
+    requires at_eof { EndsAtEof (E.post ends) }
+    ensures { (stops : ℕ → Token → Bool) → EndsWhere stops (E.post ends) → Skips R.TokenReader (up_to stops depth) r.old r.new }
+{
+    fold_until(r, depth, (), ends, |(), _, _| ());
+}
+
+// Takes the tokens before the closer of the brackets around the current one, or before the end of input.
+fn skip_inside<R: TokenReader>(r: &mut R)
+    ensures { Skips R.TokenReader inside r.old r.new }
+{
+    skip_until(
+        r,
+        0,
+        |depth, t| t.kind == Kind::EOF || depth == 0 && closes(t.kind),
+    );
+}
+
+/// From a bracket of this kind to its closer.
+pub fn group<R: TokenReader>(r: &mut R, kind: Kind) -> Result<Span, Span>
+    ensures { Reads R.TokenReader (group_of kind.code) r.old result r.new }
+{
+    let opener = expect(r, kind)?;
+    skip_inside(r);
+    let closer = closer(r)?;
+    Ok(from_to(opener, closer))
+}
+
+fn ends_expression(depth: u32, kind: Kind) -> bool
+    ensures { result ≡ ends_expression depth kind.code }
+{
+    kind == Kind::EOF
+        || depth == 0 && (kind == Kind::SEMICOLON || kind == Kind::COMMA || closes(kind))
+}
+
+// Takes the tokens of an expression after its first, which left this depth.
+fn skip_expression<R: TokenReader>(r: &mut R, depth: u32)
+    ensures { Skips R.TokenReader (up_to ends_later depth) r.old r.new }
+{
+    skip_until(
+        r,
+        depth,
+        |depth, t| ends_expression(depth, t.kind) || depth == 0 && t.line_break,
+    );
+}
+
 pub fn expression<R: TokenReader>(r: &mut R) -> Result<Span, Span>
-    ensures { Answered (expression_of (R.TokenReader.tokens r.old)) (scene R.TokenReader r.old) result (scene R.TokenReader r.new) }
+    ensures { Reads R.TokenReader expression_of r.old result r.new }
 {
     let first = r.current();
     if ends_expression(0, first.kind) {
-        return Err(place(first));
+        return Err(Span::from(first));
     }
     r.advance();
     skip_expression(r, deeper(0, first.kind));
-    Ok(Span {
-        start: first.start,
-        end: r.last_end(),
-    })
+    Ok(since(r, first.start))
 }

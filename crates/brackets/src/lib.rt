@@ -17,7 +17,7 @@ use kinds::context::Context;
 use parts::{MethodFacts, Part, Span};
 use reader::{Ahead, TokenReader};
 use script::ScriptReader;
-use token::{Token, kind};
+use token::{Kind, Token};
 
 /// The reader below, and the end of the last token taken from this one.
 #[derive(Drop)]
@@ -58,7 +58,7 @@ impl<R: TokenReader> TokenReader for Brackets<R> {
 
     fn advance(&mut self) {
         let t = self.below.current();
-        if t.kind != kind::EOF {
+        if t.kind != Kind::EOF {
             self.taken = t.end;
         }
         self.below.advance();
@@ -66,12 +66,13 @@ impl<R: TokenReader> TokenReader for Brackets<R> {
 }
 
 impl<R: TokenReader> ScriptReader for Brackets<R> {
+    // The parts are named by an enum in the interface, whose answers are said part by part; so no closure stands for one.
     fn take_part(&mut self, part: Part, context: Context) -> Result<Span, Span> {
         match part {
             Part::Decorator => members::decorator(self),
             Part::Expression => groups::expression(self),
             Part::TypeAnnotation => members::annotation(self),
-            Part::Block => groups::group(self, kind::LCURLY),
+            Part::Block => groups::group(self, Kind::LCURLY),
             Part::IndexRest => members::index(self),
         }
     }

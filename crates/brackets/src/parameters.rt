@@ -1,156 +1,129 @@
 //! Parameter lists.
 
-ghost use Rattle.std.specs.Prelude.{◌≡◌, length};
-ghost use Rattle.reader.specs.Scenes.{past, scene};
+ghost use Rattle.std.specs.Prelude.{◌≡◌};
 ghost use Rattle.brackets.specs.Depth.{inside};
 ghost use Rattle.brackets.specs.Format.{parameter_list_of};
 ghost use Rattle.brackets.specs.Inner.{ends_stretch, extended_by, started_by, stretch_of, told, with_one};
 ghost use Rattle.brackets.specs.Parameters.{parameters_in};
-ghost use Rattle.brackets.specs.Readings.{Answered};
+ghost use Rattle.brackets.specs.Readings.{Reads, Skips};
 
-use crate::groups::deeper;
-use crate::steps::{closer, closes, expect};
+use crate::groups::fold_until;
+use crate::steps::{closer, closes, expect, from_to};
 use parts::Span;
 use reader::TokenReader;
-use token::{Token, kind};
+use token::{Kind, Token};
+
+/// What is told of an item: its span, and whether `?` and `=` stand among its own tokens.
+#[derive(Clone, Copy, Debug, PartialEq, Eq)]
+pub struct Item {
+    pub span: Span,
+    pub optional: bool,
+    pub initializer: bool,
+}
 
 /// What is told of the parameters in a list.
-#[derive(Clone, Copy)]
+#[derive(Clone, Copy, Debug, Default, PartialEq, Eq)]
 pub struct Parameters {
     pub this_param: Option<Span>,
     pub rest: Option<Span>,
-    pub first_item: Option<Span>,
-    pub first_optional: bool,
-    pub first_initializer: bool,
+    pub first_item: Option<Item>,
     pub count: u32,
 }
 
 /// A list with its brackets.
-#[derive(Clone, Copy)]
+#[derive(Clone, Copy, Debug, PartialEq, Eq)]
 pub struct ParameterList {
     pub span: Span,
     pub parameters: Parameters,
 }
 
-/// The tokens between two commas of a list, as far as they are read: whether there is one, the kind of the first, the
-/// span, and whether `?` and `=` stand among them.
-#[derive(Clone, Copy)]
+/// The tokens between two commas of a list, as far as they are read: the kind of the first, and what is told of them as
+/// an item.
+#[derive(Clone, Copy, Debug, PartialEq, Eq)]
 pub struct Stretch {
-    pub filled: bool,
-    pub kind: u8,
-    pub start: u32,
-    pub end: u32,
-    pub optional: bool,
-    pub initializer: bool,
+    pub kind: Kind,
+    pub item: Item,
 }
 
-fn extended(s: Stretch, depth: u32, t: Token) -> Stretch
+fn extended(s: Option<Stretch>, depth: u32, t: Token) -> Option<Stretch>
     ensures { result ≡ extended_by depth t s }
 {
+    let Stretch { kind, item } = s.unwrap_or(Stretch {
+        kind: t.kind,
+        item: Item {
+            span: Span::from(t),
+            optional: false,
+            initializer: false,
+        },
+    });
     let own = depth == 0;
-    Stretch {
-        filled: true,
-        kind: if s.filled { s.kind } else { t.kind },
-        start: if s.filled { s.start } else { t.start },
-        end: t.end,
-        optional: s.optional || own && t.kind == kind::QUESTION,
-        initializer: s.initializer || own && t.kind == kind::EQ,
-    }
+    let item = Item {
+        span: Span {
+            end: t.end,
+            ..item.span
+        },
+        optional: item.optional || own && t.kind == Kind::QUESTION,
+        initializer: item.initializer || own && t.kind == Kind::EQ,
+    };
+    Some(Stretch { kind, item })
 }
 
 fn ends_stretch(depth: u32, t: Token) -> bool
     ensures { result ≡ ends_stretch depth t }
 {
-    t.kind == kind::EOF || depth == 0 && (closes(t.kind) || t.kind == kind::COMMA)
+    t.kind == Kind::EOF || depth == 0 && (closes(t.kind) || t.kind == Kind::COMMA)
 }
 
 // Takes the tokens before one of the list's own commas, its closer or the end of input.
-fn take_stretch<R: TokenReader>(r: &mut R) -> Stretch
+fn take_stretch<R: TokenReader>(r: &mut R) -> Option<Stretch>
     ensures value { result ≡ told (stretch_of (R.TokenReader.tokens r.old)) }
-    ensures after { scene R.TokenReader r.new ≡ past (length (stretch_of (R.TokenReader.tokens r.old))) (scene R.TokenReader r.old) }
+    ensures after { Skips R.TokenReader stretch_of r.old r.new }
 {
-    let mut s = Stretch {
-        filled: false,
-        kind: kind::EOF,
-        start: 0,
-        end: 0,
-        optional: false,
-        initializer: false,
-    };
-    let mut depth = 0;
-    loop {
-        let t = r.current();
-        if ends_stretch(depth, t) {
-            return s;
-        }
-        s = extended(s, depth, t);
-        depth = deeper(depth, t.kind);
-        r.advance();
-    }
+    fold_until(r, 0, None, ends_stretch, extended)
 }
 
-fn with_one(p: Parameters, s: Stretch) -> Parameters
+fn with_one(p: Parameters, s: Option<Stretch>) -> Parameters
     ensures { result ≡ with_one p s }
 {
-    if !s.filled {
+    let Some(s) = s else {
         return p;
-    }
-    let span = Span {
-        start: s.start,
-        end: s.end,
     };
     let count = p.count.saturating_add(1);
-    if s.kind == kind::DOT3 && p.rest.is_none() {
+    if s.kind == Kind::DOT3 && p.rest.is_none() {
         return Parameters {
-            rest: Some(span),
+            rest: Some(s.item.span),
             count,
             ..p
         };
     }
-    if p.first_item.is_some() {
-        return Parameters { count, ..p };
-    }
     Parameters {
-        first_item: Some(span),
-        first_optional: s.optional,
-        first_initializer: s.initializer,
+        first_item: p.first_item.or(Some(s.item)),
         count,
         ..p
     }
 }
 
-fn started(s: Stretch) -> Parameters
+fn started(s: Option<Stretch>) -> Parameters
     ensures { result ≡ started_by s }
 {
-    let none = Parameters {
-        this_param: None,
-        rest: None,
-        first_item: None,
-        first_optional: false,
-        first_initializer: false,
-        count: 0,
-    };
-    if s.kind == kind::THIS {
-        Parameters {
-            this_param: Some(Span {
-                start: s.start,
-                end: s.end,
-            }),
+    let none = Parameters::default();
+    match s {
+        Some(this) if this.kind == Kind::THIS => Parameters {
+            this_param: Some(this.item.span),
             ..none
-        }
-    } else {
-        with_one(none, s)
+        },
+        _ => with_one(none, s),
     }
 }
 
 // Takes what stands in the brackets of a list.
 fn take_parameters<R: TokenReader>(r: &mut R) -> Parameters
     ensures value { result ≡ parameters_in (inside (R.TokenReader.tokens r.old)) }
-    ensures after { scene R.TokenReader r.new ≡ past (length (inside (R.TokenReader.tokens r.old))) (scene R.TokenReader r.old) }
+    ensures after { Skips R.TokenReader inside r.old r.new }
 {
     let s = take_stretch(r);
     let mut found = started(s);
-    while r.current().kind == kind::COMMA {
+    while r.current().kind == Kind::COMMA {
         r.advance();
         let s = take_stretch(r);
         found = with_one(found, s);
@@ -160,16 +133,13 @@ fn take_parameters<R: TokenReader>(r: &mut R) -> Parameters
 
 /// From `(` to its closer.
 pub fn parameter_list<R: TokenReader>(r: &mut R) -> Result<ParameterList, Span>
-    ensures { Answered (parameter_list_of (R.TokenReader.tokens r.old)) (scene R.TokenReader r.old) result (scene R.TokenReader r.new) }
+    ensures { Reads R.TokenReader parameter_list_of r.old result r.new }
 {
-    let opener = expect(r, kind::LPAREN)?;
+    let opener = expect(r, Kind::LPAREN)?;
     let parameters = take_parameters(r);
     let closer = closer(r)?;
     Ok(ParameterList {
-        span: Span {
-            start: opener.start,
-            end: closer.end,
-        },
+        span: from_to(opener, closer),
         parameters,
     })
 }

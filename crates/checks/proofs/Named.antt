@@ -1,5 +1,5 @@
 -- The table of the checks of class members, kind by kind.
-use Rattle.std.proofs.Common.{◌≡◌, ℕ, Bool, true, false, cond, not, ◌||◌, eqb, Some, None, Option, sym, refl, ap, ⊎_elim, arith}
+use Rattle.std.proofs.Common.{◌≡◌, ℕ, Bool, true, false, ◌||◌, eqb, Some, None, Option, refl, ap, ⊎_elim, arith}
 use Rattle.std.proofs.lemmas.Bool.{both_ways, eqb-true, or_cases}
 use Rattle.checks.specs.ClassChecks.{allowed_in, rule_in}
 use Rattle.checks.specs.Laws.{NoFiller, SetsStand, named_in}
@@ -8,7 +8,7 @@ use Rattle.checks.specs.declared.class_check.ClassCheck.TheVariants.{Element, Ja
 use Rattle.kinds.specs.Modifiers.{modifier_number}
 use Rattle.kinds.specs.declared.modifier_kind.ModifierKind.{ModifierKind}
 use Rattle.small_set.specs.Members.{member}
-use Rattle.verdicts.proofs.Pairs.{each_kind}
+use Rattle.verdicts.proofs.Pairs.{agree, agree_same, each_kind}
 use Rattle.verdicts.specs.Verdicts.{among, packed}
 
 abbrev is_rule : Option ℕ → ℕ → Bool
@@ -39,15 +39,6 @@ pub no_filler : NoFiller
 no_filler c k h =
     ⊎_elim (λ a. absurd (both_ways (among k (allowed_in c)) h a)) (is_rule_lem (named_in c k) (rule_in c k))
     (or_cases (among k (allowed_in c)) (is_rule (named_in c k) (rule_in c k)) (all_fair c k))
-
-abbrev agree : Bool → Bool → Bool
-agree a b = cond a b (not b)
-
-agree_same : (a b : Bool) → agree a b ≡ true → a ≡ b
-agree_same true true e = refl
-agree_same true false e = sym e
-agree_same false true e = e
-agree_same false false e = refl
 
 abbrev listed : ClassCheck → ModifierKind → Bool
 listed c k = agree (member (packed (allowed_in c)) (modifier_number k)) (among k (allowed_in c))

@@ -1,17 +1,19 @@
 -- A check reports each kind that it disallows once, at its last occurrence.
-use Rattle.std.proofs.Common.{◌≡◌, ℕ, suc, ◌<◌, Bool, true, false, cond, not, ◌&&◌, ◌||◌, eqb, ltb, List, [], ◌∷◌, ◌++◌, map, length, drop, filter, Option, sym, refl, ap, ◌∙◌, subst, append_assoc, append-nil, arith}
+use Rattle.std.proofs.Common.{◌≡◌, ℕ, suc, ◌<◌, Bool, true, false, cond, not, ◌&&◌, ◌||◌, eqb, ltb, List, [], ◌∷◌, ◌++◌, map, length, drop, filter, Option, sym, refl, ap, ◌∙◌, subst, append_assoc, append-nil, add-one, arith, length-append}
+use Rattle.std.proofs.Math.Seq.{drop-append-add, get_or-append_seam}
 use Rattle.std.proofs.lemmas.List.Elements.{filter-append}
 use Rattle.std.proofs.lemmas.Bool.{and_from, and_parts, both_ways, ltb-true}
 use Rattle.std.proofs.lemmas.Bool.Decides.{nat_tests}
 use Rattle.std.specs.List.{list_all}
 use Rattle.checks.specs.Laws.{CheckedOnce, ChecksStand, LastDisallowed, Worded}
 use Rattle.checks.specs.Sayings.{Saying, disallowed_reports, given, report_unless, said_of}
-use Rattle.keywords.proofs.Cuts.{at_front, drop_front, length_here, length_push}
+use Rattle.keywords.proofs.Cuts.{length_push}
 use Rattle.keywords.specs.Laws.{keyword_at, kind_at}
 use Rattle.keywords.specs.Run.{lasts, lasts_from, place_of}
 use Rattle.kinds.specs.Modifiers.{modifier_number}
 use Rattle.kinds.specs.declared.modifier_kind.ModifierKind.{ModifierKind}
-use Rattle.modifiers.specs.Entries.{added, ascending, keeps, same_kind, without}
+use Rattle.kinds.specs.declared.modifier_kind.ModifierKind.TheVariants.{Declare}
+use Rattle.modifiers.specs.Entries.{added, ascending, keeps, same_kind, without, word_at}
 use Rattle.modifiers.specs.declared.modifier.Modifier.{Modifier}
 use Rattle.reports.proofs.Places.{OneFrom, from_all, from_end, from_skip, from_take}
 use Rattle.reports.specs.OneEach.{Ascending, Every, OneEach}
@@ -128,13 +130,13 @@ module _ (allowed : ℕ) (strict : Bool) (says : ModifierKind → Option ℕ →
       (rw (length_push pre m) at (check_from kept (pre ++ (m ∷ [])) ms (e ∙ sym (append_assoc pre (m ∷ []) ms))))
     where
       here : keyword_at kept (length pre) ≡ m
-      here = ap (λ l. keyword_at l (length pre)) e ∙ at_front pre m ms
+      here = ap (λ l. keyword_at l (length pre)) e ∙ get_or-append_seam pre m ms (word_at Declare 0)
 
       later : drop (suc (length pre)) kept ≡ ms
-      later = ap (drop (suc (length pre))) e ∙ drop_front pre m ms
+      later = ap (drop (suc (length pre))) e ∙ rw add-one at (drop-append-add pre (m ∷ ms) 1)
 
       lt : length pre < length kept
-      lt = rw e (length_here pre m ms)
+      lt = rw e (omega (arith, length-append pre (m ∷ ms)))
 
       -- whether it occurs again, and whether it is allowed, by its place
       again : keeps (kind_at kept (length pre)) (drop (suc (length pre)) kept) ≡ keeps m.kind ms

@@ -1,6 +1,6 @@
 //! The checks of class members by name.
 
-#[derive(Clone, Copy)]
+#[derive(Clone, Copy, Debug, PartialEq, Eq)]
 pub enum ClassCheck {
     /// Every member but static blocks and index signatures.
     Element,

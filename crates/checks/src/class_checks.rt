@@ -1,11 +1,11 @@
 //! The checks of class members, each with its wording.
 
 ghost use Rattle.std.specs.Prelude.{◌≡◌, ◌^◌, ◌<◌};
-ghost use Rattle.checks.specs.ClassChecks.{check_reports, says_in};
-ghost use Rattle.checks.specs.Sayings.{disallowed_reports};
+ghost use Rattle.checks.specs.ClassChecks.{allowed_in, check_reports, says_in, strict_in};
 ghost use Rattle.checks.specs.declared.class_check.ClassCheck.TheVariants.{Accessor, AccessorProperty, ConstInOut, Constructor, Element, IndexSignature, JavaScript, Method, PrivateName, Property, StaticBlock};
 ghost use Rattle.list.specs.Lists.{Noted};
 ghost use Rattle.modifiers.specs.Lists.{entries};
+ghost use Rattle.verdicts.specs.Verdicts.{packed};
 
 use crate::class_check::ClassCheck;
 use crate::verifying::{Check, verify_modifiers};
@@ -15,40 +15,47 @@ use list::list::List;
 use modifiers::Modifiers;
 use parts::Span;
 use reports::Report;
+use rules::Rule;
 
-// The allowed kinds of each check, as bits.
-const ELEMENT: u16 = 12287;
-
-const JAVA_SCRIPT: u16 = 28944;
-
-const STATIC_BLOCK: u16 = 0;
-
-const INDEX_SIGNATURE: u16 = 48;
-
-const CONST_IN_OUT: u16 = 29183;
-
-const PRIVATE_NAME: u16 = 32753;
-
-const ACCESSOR_PROPERTY: u16 = 8414;
-
-const ACCESSOR: u16 = 24286;
-
-const CONSTRUCTOR: u16 = 24542;
-
-const METHOD: u16 = 24542;
-
-const PROPERTY: u16 = 32511;
-// What the method check tells as allowed.
+// What the method check tells as allowed, as bits too.
 const ON_METHODS: u16 = 478;
+
+impl ClassCheck {
+    // The allowed kinds, as bits: reports tell a set so, and the tables of rules list it so.
+    fn bits(self) -> u16
+        ensures { result ≡ packed (allowed_in self) }
+    {
+        match self {
+            ClassCheck::Element => 12287,
+            ClassCheck::JavaScript => 28944,
+            ClassCheck::StaticBlock => 0,
+            ClassCheck::IndexSignature => 48,
+            ClassCheck::ConstInOut => 29183,
+            ClassCheck::PrivateName => 32753,
+            ClassCheck::AccessorProperty => 8414,
+            ClassCheck::Accessor => 24286,
+            ClassCheck::Constructor => 24542,
+            ClassCheck::Method => 24542,
+            ClassCheck::Property => 32511,
+        }
+    }
+
+    // Whether just these are allowed, so that the wording is told them.
+    fn is_strict(self) -> bool
+        ensures { result ≡ strict_in self }
+    {
+        matches!(
+            self,
+            ClassCheck::IndexSignature | ClassCheck::AccessorProperty
+        )
+    }
+}
 
 // A set of kinds by its bits.
 fn set(bits: u16) -> ModifierKinds
     ensures { bits < 2 ^ 15 → result.bits ≡ bits }
 {
-    match ModifierKinds::from_bits(bits) {
-        Some(s) => s,
-        None => ModifierKinds::none(),
-    }
+    ModifierKinds::from_bits(bits).unwrap_or(ModifierKinds::none())
 }
 
 #[derive(Drop)]
@@ -58,7 +65,7 @@ impl Wording for OnElements {
     ghost says = { λ _. says_in Element };
 
     fn word(&self, kind: ModifierKind, place: Span, allowed: Option<ModifierKinds>) -> Report {
-        Report::of_keyword(6, kind, place, None, allowed)
+        Report::of_keyword(Rule::OnClassElement.number(), kind, place, None, allowed)
     }
 }
 
@@ -69,7 +76,7 @@ impl Wording for InJavaScript {
     ghost says = { λ _. says_in JavaScript };
 
     fn word(&self, kind: ModifierKind, place: Span, _allowed: Option<ModifierKinds>) -> Report {
-        Report::of_keyword(7, kind, place, None, None)
+        Report::of_keyword(Rule::InTypeScriptOnly.number(), kind, place, None, None)
     }
 }
 
@@ -80,7 +87,7 @@ impl Wording for OnStaticBlocks {
     ghost says = { λ _. says_in StaticBlock };
 
     fn word(&self, kind: ModifierKind, place: Span, allowed: Option<ModifierKinds>) -> Report {
-        Report::of_keyword(8, kind, place, None, allowed)
+        Report::of_keyword(Rule::OnStaticBlock.number(), kind, place, None, allowed)
     }
 }
 
@@ -91,7 +98,7 @@ impl Wording for OnIndexSignatures {
     ghost says = { λ _. says_in IndexSignature };
 
     fn word(&self, kind: ModifierKind, place: Span, allowed: Option<ModifierKinds>) -> Report {
-        Report::of_keyword(9, kind, place, None, allowed)
+        Report::of_keyword(Rule::OnIndexSignature.number(), kind, place, None, allowed)
     }
 }
 
@@ -103,10 +110,10 @@ impl Wording for ConstInOrOut {
 
     fn word(&self, kind: ModifierKind, place: Span, _allowed: Option<ModifierKinds>) -> Report {
         let rule = match kind {
-            ModifierKind::Const => 10,
-            _ => 11,
+            ModifierKind::Const => Rule::ConstClassMember,
+            _ => Rule::OnTypeParameterOnly,
         };
-        Report::of_keyword(rule, kind, place, None, None)
+        Report::of_keyword(rule.number(), kind, place, None, None)
     }
 }
 
@@ -117,7 +124,7 @@ impl Wording for OnPrivateNames {
     ghost says = { λ _. says_in PrivateName };
 
     fn word(&self, kind: ModifierKind, place: Span, allowed: Option<ModifierKinds>) -> Report {
-        Report::of_keyword(12, kind, place, None, allowed)
+        Report::of_keyword(Rule::OnPrivateName.number(), kind, place, None, allowed)
     }
 }
 
@@ -128,7 +135,13 @@ impl Wording for OnAccessorProperties {
     ghost says = { λ _. says_in AccessorProperty };
 
     fn word(&self, kind: ModifierKind, place: Span, allowed: Option<ModifierKinds>) -> Report {
-        Report::of_keyword(13, kind, place, None, allowed)
+        Report::of_keyword(
+            Rule::OnAccessorProperty.number(),
+            kind,
+            place,
+            None,
+            allowed,
+        )
     }
 }
 
@@ -140,11 +153,11 @@ impl Wording for OnAccessors {
 
     fn word(&self, kind: ModifierKind, place: Span, allowed: Option<ModifierKinds>) -> Report {
         let rule = match kind {
-            ModifierKind::Accessor => 14,
-            ModifierKind::Readonly => 17,
-            _ => 15,
+            ModifierKind::Accessor => Rule::AccessorOnPropertyOnly,
+            ModifierKind::Readonly => Rule::OnPropertyOrIndexOnly,
+            _ => Rule::CannotBeUsedHere,
         };
-        Report::of_keyword(rule, kind, place, None, allowed)
+        Report::of_keyword(rule.number(), kind, place, None, allowed)
     }
 }
 
@@ -156,11 +169,11 @@ impl Wording for OnConstructors {
 
     fn word(&self, kind: ModifierKind, place: Span, _allowed: Option<ModifierKinds>) -> Report {
         let rule = match kind {
-            ModifierKind::Declare => 16,
-            ModifierKind::Readonly => 17,
-            _ => 14,
+            ModifierKind::Declare => Rule::DeclareConstructor,
+            ModifierKind::Readonly => Rule::OnPropertyOrIndexOnly,
+            _ => Rule::AccessorOnPropertyOnly,
         };
-        Report::of_keyword(rule, kind, place, None, None)
+        Report::of_keyword(rule.number(), kind, place, None, None)
     }
 }
 
@@ -172,11 +185,11 @@ impl Wording for OnMethods {
 
     fn word(&self, kind: ModifierKind, place: Span, _allowed: Option<ModifierKinds>) -> Report {
         let rule = match kind {
-            ModifierKind::Declare => 6,
-            ModifierKind::Readonly => 17,
-            _ => 14,
+            ModifierKind::Declare => Rule::OnClassElement,
+            ModifierKind::Readonly => Rule::OnPropertyOrIndexOnly,
+            _ => Rule::AccessorOnPropertyOnly,
         };
-        Report::of_keyword(rule, kind, place, None, Some(set(ON_METHODS)))
+        Report::of_keyword(rule.number(), kind, place, None, Some(set(ON_METHODS)))
     }
 }
 
@@ -187,54 +200,43 @@ impl Wording for OnProperties {
     ghost says = { λ _. says_in Property };
 
     fn word(&self, kind: ModifierKind, place: Span, allowed: Option<ModifierKinds>) -> Report {
-        Report::of_keyword(15, kind, place, None, allowed)
+        Report::of_keyword(Rule::CannotBeUsedHere.number(), kind, place, None, allowed)
     }
 }
 
 fn run<W: Wording + Drop>(
-    modifiers: Modifiers,
-    allowed: u16,
-    strict: bool,
+    check: ClassCheck,
     wording: W,
+    modifiers: Modifiers,
     reports: &mut List<'_, Report>,
 )
-    ensures { allowed < 2 ^ 15 → Noted reports.old reports.new (disallowed_reports allowed strict (W.Wording.says wording) (entries modifiers)) }
+    requires { W.Wording.says wording ≡ says_in check }
+    ensures { Noted reports.old reports.new (check_reports check (entries modifiers)) }
 {
     let check = Check {
-        allowed: set(allowed),
-        strict,
+        allowed: set(check.bits()),
+        strict: check.is_strict(),
         wording,
     };
     verify_modifiers(modifiers, &check, reports);
 }
 
+// A match picks the wording's type: each is a type of its own, and none is kept as a value to call later.
 /// Runs a check of class members.
 pub fn run_check(check: ClassCheck, modifiers: Modifiers, reports: &mut List<'_, Report>)
     ensures { Noted reports.old reports.new (check_reports check (entries modifiers)) }
 {
     match check {
-        ClassCheck::Element => run(modifiers, ELEMENT, false, OnElements, reports),
-        ClassCheck::JavaScript => run(modifiers, JAVA_SCRIPT, false, InJavaScript, reports),
-        ClassCheck::StaticBlock => run(modifiers, STATIC_BLOCK, false, OnStaticBlocks, reports),
-        ClassCheck::IndexSignature => run(
-            modifiers,
-            INDEX_SIGNATURE,
-            true,
-            OnIndexSignatures,
-            reports,
-        ),
-        ClassCheck::ConstInOut => run(modifiers, CONST_IN_OUT, false, ConstInOrOut, reports),
-        ClassCheck::PrivateName => run(modifiers, PRIVATE_NAME, false, OnPrivateNames, reports),
-        ClassCheck::AccessorProperty => run(
-            modifiers,
-            ACCESSOR_PROPERTY,
-            true,
-            OnAccessorProperties,
-            reports,
-        ),
-        ClassCheck::Accessor => run(modifiers, ACCESSOR, false, OnAccessors, reports),
-        ClassCheck::Constructor => run(modifiers, CONSTRUCTOR, false, OnConstructors, reports),
-        ClassCheck::Method => run(modifiers, METHOD, false, OnMethods, reports),
-        ClassCheck::Property => run(modifiers, PROPERTY, false, OnProperties, reports),
+        ClassCheck::Element => run(check, OnElements, modifiers, reports),
+        ClassCheck::JavaScript => run(check, InJavaScript, modifiers, reports),
+        ClassCheck::StaticBlock => run(check, OnStaticBlocks, modifiers, reports),
+        ClassCheck::IndexSignature => run(check, OnIndexSignatures, modifiers, reports),
+        ClassCheck::ConstInOut => run(check, ConstInOrOut, modifiers, reports),
+        ClassCheck::PrivateName => run(check, OnPrivateNames, modifiers, reports),
+        ClassCheck::AccessorProperty => run(check, OnAccessorProperties, modifiers, reports),
+        ClassCheck::Accessor => run(check, OnAccessors, modifiers, reports),
+        ClassCheck::Constructor => run(check, OnConstructors, modifiers, reports),
+        ClassCheck::Method => run(check, OnMethods, modifiers, reports),
+        ClassCheck::Property => run(check, OnProperties, modifiers, reports),
     }
 }

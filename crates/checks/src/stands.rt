@@ -5,6 +5,7 @@ ghost use Rattle.std.specs.Prelude.{◌≡◌};
 
 const STANDS: u8 = 0;
 
+// It answers a constant, since the laws stand in its contract.
 /// What holds of every check, and of the checks of class members by their table.
 pub fn checks_stand() -> u8
     ensures stands { result ≡ 0 }

@@ -17,6 +17,7 @@ use modifiers::{Modifiers, Placed};
 use parts::Span;
 use reports::Report;
 
+// A flag beside the set, which is asked also where the wording is not told it.
 /// The kinds that are allowed, whether just these are (so that the wording is told them), and what is said of others.
 #[derive(Drop)]
 pub struct Check<W> {
@@ -32,11 +33,7 @@ fn verify_one<W: Wording>(m: Placed, check: &Check<W>, reports: &mut List<'_, Re
     if check.allowed.contains(m.kind) {
         return;
     }
-    let allowed = if check.strict {
-        Some(check.allowed)
-    } else {
-        None
-    };
+    let allowed = check.strict.then_some(check.allowed);
     let place = Span {
         start: m.start,
         end: m.end,
@@ -53,10 +50,7 @@ pub fn verify_modifiers<W: Wording>(
     ensures noted { Noted reports.old reports.new (disallowed_reports check.now.allowed.bits check.now.strict (W.Wording.says check.now.wording) (entries modifiers)) }
     ensures once { (kept : Listed Modifier) → entries modifiers ≡ lasts kept → CheckedOnce check.now.allowed.bits check.now.strict (W.Wording.says check.now.wording) kept (disallowed_reports check.now.allowed.bits check.now.strict (W.Wording.says check.now.wording) (entries modifiers)) }
 {
-    for i in 0..modifiers.len() {
-        let Some(m) = modifiers.placed_at(i) else {
-            return;
-        };
+    for m in modifiers.iter() {
         verify_one(m, check, reports);
     }
 }

@@ -17,7 +17,8 @@ use Rattle.records.specs.declared.record.Method.{Method as Facts}
 use Rattle.class.specs.Decorating.{decorator_reports}
 use Rattle.class.specs.Methods.{accessor_reports, constructor_reports, is_ambient, method_of, plain_reports}
 use Rattle.class.specs.Naming.{name_d}
-use Rattle.class.specs.Taking.{method_d, part_d, place_at}
+use Rattle.class.specs.Taking.{method_d, part_d}
+use Rattle.token.specs.Spans.{span_of}
 use Rattle.class.specs.declared.naming.ReadName.{ReadName}
 
 -- what no member has: `export` and `default`; in JavaScript, a keyword of TypeScript
@@ -31,7 +32,7 @@ accessor_form false m = Setter m
 -- a getter or a setter that was read
 unfoldable pub accessor_end_d : Bool → ℕ → List Modifier → Bool → ReadName → MethodFacts → Dialogue Form
 accessor_end_d ts c ms getter n f =
-    note (accessor_reports ts getter (is_ambient c) n.code (method_of n ms false false f))
+    note (accessor_reports ts getter (is_ambient c) n.special (method_of n ms false false f))
     (check Accessor ms (done (accessor_form getter (method_of n ms false false f))))
 
 -- after its name
@@ -44,7 +45,7 @@ accessor_d ts c ms getter = then (element_checks_d ts ms) (λ _. then (name_d ts
 
 -- a constructor that was read
 unfoldable pub constructor_end_d : ℕ → List Modifier → ReadName → MethodFacts → Dialogue Form
-constructor_end_d c ms n f = note (constructor_reports (is_ambient c) n.code (method_of n ms false false f)) (done (AConstructor (method_of n ms false false f)))
+constructor_end_d c ms n f = note (constructor_reports (is_ambient c) n.special (method_of n ms false false f)) (done (AConstructor (method_of n ms false false f)))
 
 unfoldable pub constructor_rest_d : ℕ → List Modifier → ReadName → Dialogue Form
 constructor_rest_d c ms n = then (method_d c) (constructor_end_d c ms n)
@@ -57,7 +58,7 @@ constructor_d ts c ms ds n =
 
 -- any other method that was read
 unfoldable pub method_end_d : ℕ → List Modifier → Bool → Bool → ReadName → MethodFacts → Dialogue Form
-method_end_d c ms opt star n f = note (plain_reports (is_ambient c) n.code (method_of n ms opt star f)) (done (AMethod (method_of n ms opt star f)))
+method_end_d c ms opt star n f = note (plain_reports (is_ambient c) n.special (method_of n ms opt star f)) (done (AMethod (method_of n ms opt star f)))
 
 -- after its name
 unfoldable pub method_form_d : ℕ → List Modifier → Bool → Bool → ReadName → Dialogue Form
@@ -75,7 +76,7 @@ any_kind k = true
 
 -- the current token, whatever it is, and what follows it (every kind passes, so the second way never comes up)
 abbrev pub taken_d : {A : Type 0} → Dialogue A → Dialogue A
-taken_d d = eat any_kind (λ _. d) (λ t. stop Unexpected (place_at t))
+taken_d d = eat any_kind (λ _. d) (λ t. stop Unexpected (span_of t))
 
 -- ClassStaticBlock, from `static` on: it has no decorators and no keywords
 unfoldable pub block_d : ℕ → List Modifier → List Span → Dialogue Form

@@ -5,4 +5,5 @@ pub mod Methods
 pub mod Naming
 pub mod Noting
 pub mod Properties
+pub mod Reading
 pub mod Taking

@@ -1,5 +1,5 @@
 -- Members: which form stands there, and the member as a whole.
-use Rattle.std.specs.Prelude.{ℕ, Bool, true, false, cond, not, ◌&&◌, ◌||◌, List, [], is_some, Some, None, Ok, Err, Option, Result, ◌==◌}
+use Rattle.std.specs.Prelude.{ℕ, Bool, true, false, cond, not, ◌&&◌, ◌||◌, List, [], is_some, Some, None, Ok, Err, Option, Result}
 use Rattle.dialogue.specs.Dialogues.{Dialogue, ask_index, done, last, look, note, peek, stop, take_keywords, take_semicolons, test, then}
 use Rattle.dialogue.specs.declared.Fatal.{Fatal}
 use Rattle.dialogue.specs.declared.Fatal.TheVariants.{Unexpected}
@@ -16,24 +16,25 @@ use Rattle.records.specs.declared.record.Form.TheVariants.{Accessor, Constructor
 use Rattle.records.specs.declared.record.MemberRecord.{MemberRecord}
 use Rattle.records.specs.declared.record.NameKind.TheVariants.{Identifier, String}
 use Rattle.token.specs.Kinds.{can_follow_get_or_set, is_identifier_or_keyword, k_constructor, k_get, k_lbrack, k_lcurly, k_lparen, k_rcurly, k_set, k_star, k_static, k_str}
+use Rattle.token.specs.Spans.{span_of}
 use Rattle.token.specs.declared.Token.{Token}
 use Rattle.class.specs.Decorating.{decorator_reports}
 use Rattle.class.specs.Forms.{accessor_d, block_d, constructor_d, element_checks_d, index_d, taken_d}
-use Rattle.class.specs.Naming.{named}
+use Rattle.class.specs.Naming.{is_constructor_name, named, special_of}
 use Rattle.class.specs.Properties.{property_or_method_d}
-use Rattle.class.specs.Taking.{decorators_d, is_kind, place_at}
+use Rattle.class.specs.Taking.{decorators_d, is_kind}
 use Rattle.class.specs.declared.naming.ReadName.{ReadName}
 
 -- what a property or a method starts with: a name of any sort, `*` or `[`
 abbrev pub starts_name : Token → Bool
-starts_name t = is_identifier_or_keyword t.kind || (is_kind k_star t.kind || is_kind k_lbrack t.kind)
+starts_name t = is_identifier_or_keyword t.kind.code || (is_kind k_star t.kind.code || is_kind k_lbrack t.kind.code)
 
 -- a property or a method, in an ambient context after `declare`; else 51
 unfoldable pub named_form_d : Bool → ℕ → List Modifier → Dialogue Form
 named_form_d ts c ms =
     look (λ t. test (starts_name t)
     (test (keeps Declare ms) (property_or_method_d ts (changed_bits Ambient c) ms) (property_or_method_d ts c ms))
-    (stop Unexpected (place_at t)))
+    (stop Unexpected (span_of t)))
 
 -- an index signature where one starts; else a property or a method
 unfoldable pub index_or_named_d : Bool → ℕ → List Modifier → List Span → Dialogue Form
@@ -42,17 +43,17 @@ index_or_named_d ts c ms ds = ask_index c (λ b. test b (index_d c ms ds) (then 
 -- the name of a constructor: `constructor`, or a string of it before `(`, where `static` is not kept
 abbrev pub is_constructor : List Modifier → Token → Token → Bool
 is_constructor ms t n =
-    not (keeps Static ms) && (is_kind k_constructor t.kind || (is_kind k_str t.kind && (t.name == 1 && is_kind k_lparen n.kind)))
+    not (keeps Static ms) && (is_kind k_constructor t.kind.code || (is_kind k_str t.kind.code && (is_constructor_name (special_of t.name) && is_kind k_lparen n.kind.code)))
 
 abbrev pub constructor_name : Token → ReadName
-constructor_name t = named (cond (is_kind k_str t.kind) String Identifier) (place_at t) t.name
+constructor_name t = named (cond (is_kind k_str t.kind.code) String Identifier) (span_of t) (special_of t.name)
 
 unfoldable pub constructor_or_other_d : Bool → ℕ → List Modifier → List Span → Token → Token → Dialogue Form
 constructor_or_other_d ts c ms ds t n = test (is_constructor ms t n) (taken_d (constructor_d ts c ms ds (constructor_name t))) (index_or_named_d ts c ms ds)
 
 -- `get` or `set` before what can follow it
 abbrev pub is_accessor : ℕ → Token → Token → Bool
-is_accessor k t n = is_kind k t.kind && can_follow_get_or_set n.kind
+is_accessor k t n = is_kind k t.kind.code && can_follow_get_or_set n.kind.code
 
 unfoldable pub accessor_or_other_d : Bool → ℕ → List Modifier → List Span → Token → Token → Dialogue Form
 accessor_or_other_d ts c ms ds t n =
@@ -61,7 +62,7 @@ accessor_or_other_d ts c ms ds t n =
 
 -- `static` before `{`
 abbrev pub is_block : Token → Token → Bool
-is_block t n = is_kind k_static t.kind && is_kind k_lcurly n.kind
+is_block t n = is_kind k_static t.kind.code && is_kind k_lcurly n.kind.code
 
 -- ClassElement after its decorators and keywords
 unfoldable pub form_d : Bool → ℕ → List Modifier → List Span → Dialogue Form
@@ -111,7 +112,7 @@ decorated_d ts c start ds = take_keywords member_settings (λ ms. then (form_d t
 -- a member, or none before `}`
 unfoldable pub member_d : Bool → ℕ → Dialogue (Option Told)
 member_d ts c =
-    take_semicolons (look (λ t. test (is_kind k_rcurly t.kind) (done None) (then (decorators_d c 16 []) (decorated_d ts c t.start))))
+    take_semicolons (look (λ t. test (is_kind k_rcurly t.kind.code) (done None) (then (decorators_d c 16 []) (decorated_d ts c t.start))))
 
 -- what a record tells, if there is one
 abbrev pub told_of : Option MemberRecord → Option Told

@@ -16,6 +16,8 @@ use Rattle.reports.specs.declared.Report.{Report}
 use Rattle.small_set.specs.Members.{member}
 use Rattle.class.specs.Noting.{report_at, report_if}
 use Rattle.class.specs.declared.naming.ReadName.{ReadName}
+use Rattle.class.specs.declared.naming.SpecialName.{SpecialName}
+use Rattle.class.specs.declared.naming.SpecialName.TheVariants.{Constructor, Prototype}
 
 -- whether a context, by its bits, is ambient
 abbrev pub is_ambient : ℕ → Bool
@@ -53,10 +55,10 @@ constructor_name_reports accessor m =
     ++ report_at 43 (cond accessor None m.facts.type_parameters))))
 
 -- what its PropName earns: 28 where it is static, 39 to 43 where it is not
-abbrev pub prop_name_reports : Bool → Bool → ℕ → Method → List Report
-prop_name_reports accessor ambient code m =
-    cond m.is_static (report_if (code == 2 && not ambient) 28 m.name.span)
-    (cond (code == 1) (constructor_name_reports accessor m) [])
+abbrev pub prop_name_reports : Bool → Bool → Option SpecialName → Method → List Report
+prop_name_reports accessor ambient None m = []
+prop_name_reports accessor ambient (Some Constructor) m = cond m.is_static [] (constructor_name_reports accessor m)
+prop_name_reports accessor ambient (Some Prototype) m = cond m.is_static (report_if (not ambient) 28 m.name.span) []
 
 -- an empty place
 abbrev pub empty_at : ℕ → Span
@@ -68,10 +70,10 @@ body_reports ambient None = []
 body_reports ambient (Some n) = report_if ambient 44 (empty_at n)
 
 -- what every method earns, also a getter, a setter and a constructor
-unfoldable pub method_reports : Bool → Bool → ℕ → Method → List Report
-method_reports accessor ambient code m =
+unfoldable pub method_reports : Bool → Bool → Option SpecialName → Method → List Report
+method_reports accessor ambient special m =
     report_if (m.is_abstract && is_private m.name.kind) 29 m.name.span
-    ++ (prop_name_reports accessor ambient code m ++ body_reports ambient m.facts.body_start)
+    ++ (prop_name_reports accessor ambient special m ++ body_reports ambient m.facts.body_start)
 
 -- a getter: 32 for type parameters, else 33 for parameters
 abbrev pub getter_reports : Option Span → MethodFacts → List Report
@@ -104,9 +106,9 @@ abbrev pub abstract_reports : ℕ → Method → List Report
 abstract_reports rule m = report_if (m.is_abstract && is_some m.facts.body_start) rule m.name.span
 
 -- what a getter or a setter earns
-unfoldable pub accessor_reports : Bool → Bool → Bool → ℕ → Method → List Report
-accessor_reports ts getter ambient code m =
-    method_reports true ambient code m
+unfoldable pub accessor_reports : Bool → Bool → Bool → Option SpecialName → Method → List Report
+accessor_reports ts getter ambient special m =
+    method_reports true ambient special m
     ++ (cond getter (getter_reports m.facts.type_parameters m.facts) (setter_reports ts m.facts.type_parameters m.facts)
     ++ abstract_reports 45 m)
 
@@ -116,9 +118,9 @@ type_in None = None
 type_in (Some r) = Some r.type_span
 
 -- what a constructor earns: also 47 for a `this` parameter and 48 for a return type
-unfoldable pub constructor_reports : Bool → ℕ → Method → List Report
-constructor_reports ambient code m = method_reports false ambient code m ++ (report_at 47 m.facts.this_param ++ report_at 48 (type_in m.facts.return_type))
+unfoldable pub constructor_reports : Bool → Option SpecialName → Method → List Report
+constructor_reports ambient special m = method_reports false ambient special m ++ (report_at 47 m.facts.this_param ++ report_at 48 (type_in m.facts.return_type))
 
 -- what any other method earns
-unfoldable pub plain_reports : Bool → ℕ → Method → List Report
-plain_reports ambient code m = method_reports false ambient code m ++ abstract_reports 46 m
+unfoldable pub plain_reports : Bool → Option SpecialName → Method → List Report
+plain_reports ambient special m = method_reports false ambient special m ++ abstract_reports 46 m

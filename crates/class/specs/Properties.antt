@@ -1,5 +1,5 @@
 -- Properties and accessor properties.
-use Rattle.std.specs.Prelude.{ℕ, Bool, true, false, cond, not, ◌&&◌, ◌||◌, List, [], ◌∷◌, ◌++◌, is_some, Some, None, Option, ◌==◌}
+use Rattle.std.specs.Prelude.{ℕ, Bool, true, false, cond, not, ◌&&◌, ◌||◌, List, [], ◌∷◌, ◌++◌, is_some, Some, None, Option}
 use Rattle.checks.specs.declared.class_check.ClassCheck.TheVariants.{AccessorProperty, Property as OnProperty}
 use Rattle.dialogue.specs.Dialogues.{Dialogue, check, done, look, note, test, then}
 use Rattle.keywords.specs.Run.{place_of}
@@ -19,10 +19,11 @@ use Rattle.token.specs.Kinds.{k_bang, k_langle, k_lparen, k_star}
 use Rattle.token.specs.declared.Token.{Token}
 use Rattle.class.specs.Forms.{method_form_d}
 use Rattle.class.specs.Methods.{is_ambient, is_private}
-use Rattle.class.specs.Naming.{name_d}
+use Rattle.class.specs.Naming.{is_constructor_name, is_prototype_name, name_d}
 use Rattle.class.specs.Noting.{report_at, report_if}
 use Rattle.class.specs.Taking.{inserted_d, is_kind, optional_d, question_d, semicolon_d, type_d, value_d}
 use Rattle.class.specs.declared.naming.ReadName.{ReadName}
+use Rattle.class.specs.declared.naming.SpecialName.{SpecialName}
 use Rattle.class.specs.declared.properties.Typed.{Typed}
 
 -- `!`: 21 before a value, else 22 without a type, else 23 where nothing is assigned later
@@ -92,10 +93,10 @@ entry_place (Some m) = Some (place_of m)
 
 -- what its name earns: 27 for the PropName `constructor`, 28 for a static `prototype`, and for an abstract private one 29 at
 -- the keyword
-abbrev pub field_name_reports : Bool → ℕ → Option Span → Property → List Report
-field_name_reports ambient code keyword p =
-    report_if (code == 1) 27 p.name.span
-    ++ (report_if (p.is_static && (code == 2 && not ambient)) 28 p.name.span
+abbrev pub field_name_reports : Bool → Option SpecialName → Option Span → Property → List Report
+field_name_reports ambient special keyword p =
+    report_if (is_constructor_name special) 27 p.name.span
+    ++ (report_if (p.is_static && (is_prototype_name special && not ambient)) 28 p.name.span
     ++ report_at 29 (cond (is_private p.name.kind) keyword None))
 
 -- whether a value is not allowed for the ambient context
@@ -106,16 +107,16 @@ is_banned ambient p = ambient && not (p.readonly && not (is_some p.type_annotati
 abbrev pub initializer_reports : Bool → Property → List Report
 initializer_reports ambient p = report_if (p.is_abstract && is_some p.value) 30 p.name.span ++ report_at 31 (cond (is_banned ambient p) p.value None)
 
-unfoldable pub property_reports : Bool → ℕ → Option Span → Option Span → Property → List Report
-property_reports ambient code keyword bang p =
-    field_name_reports ambient code keyword p
+unfoldable pub property_reports : Bool → Option SpecialName → Option Span → Option Span → Property → List Report
+property_reports ambient special keyword bang p =
+    field_name_reports ambient special keyword p
     ++ (initializer_reports ambient p ++ definite_reports bang p.value p.type_annotation (is_narrow ambient p.is_static p.is_abstract))
 
 -- a property that was read
 unfoldable pub property_end_d : ℕ → List Modifier → ReadName → Option Span → Option Span → Typed → Dialogue Form
 property_end_d c ms n q bang tv =
     check OnProperty ms
-    (note (property_reports (is_ambient c) n.code (entry_place (entry_of Abstract ms)) bang (property_of n ms q bang tv)) (done (AProperty (property_of n ms q bang tv))))
+    (note (property_reports (is_ambient c) n.special (entry_place (entry_of Abstract ms)) bang (property_of n ms q bang tv)) (done (AProperty (property_of n ms q bang tv))))
 
 unfoldable pub property_close_d : ℕ → List Modifier → ReadName → Option Span → Option Span → Typed → Dialogue Form
 property_close_d c ms n q bang tv = then semicolon_d (λ _. property_end_d c ms n q bang tv)
@@ -139,7 +140,7 @@ is_string Computed = false
 
 -- an accessor property: 25 at `?`, and 26 for the string name `constructor`
 unfoldable pub accessor_name_reports : Option Span → ReadName → List Report
-accessor_name_reports q n = report_at 25 q ++ report_if (is_string n.name.kind && n.code == 1) 26 n.name.span
+accessor_name_reports q n = report_at 25 q ++ report_if (is_string n.name.kind && is_constructor_name n.special) 26 n.name.span
 
 unfoldable pub accessor_named_d : Bool → ℕ → List Modifier → ReadName → Option Span → Option Span → Dialogue Form
 accessor_named_d ts c ms n q bang = note (accessor_name_reports q n) (accessor_property_d ts c ms n bang)
@@ -156,7 +157,7 @@ definite_d ts c ms n q = then (optional_d k_bang) (banged_d ts c ms n q)
 
 -- a method after `*`, or before `(` or `<`
 abbrev pub is_method : Bool → Token → Bool
-is_method star t = star || (is_kind k_lparen t.kind || is_kind k_langle t.kind)
+is_method star t = star || (is_kind k_lparen t.kind.code || is_kind k_langle t.kind.code)
 
 unfoldable pub choice_d : Bool → ℕ → List Modifier → Bool → ReadName → Option Span → Dialogue Form
 choice_d ts c ms star n q = look (λ t. test (is_method star t) (method_form_d c ms (is_some q) star n) (definite_d ts c ms n q))

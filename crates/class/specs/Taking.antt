@@ -9,11 +9,8 @@ use Rattle.parts.specs.declared.Part.{Part}
 use Rattle.parts.specs.declared.Part.TheVariants.{Decorator, Expression, TypeAnnotation}
 use Rattle.parts.specs.declared.Span.{Span}
 use Rattle.token.specs.Kinds.{k_at, k_colon, k_eof, k_eq, k_question, k_rcurly, k_semicolon}
+use Rattle.token.specs.Spans.{span_of}
 use Rattle.token.specs.declared.Token.{Token}
-
--- where a token stands
-abbrev pub place_at : Token → Span
-place_at t = record { start = t.start; end = t.end }
 
 abbrev pub is_kind : ℕ → ℕ → Bool
 is_kind k j = j == k
@@ -33,12 +30,12 @@ method_d c = take_method c told_part
 
 -- decorators while `@` stands there, n more at most: the next one is 52
 unfoldable pub decorators_d : ℕ → ℕ → List Span → Dialogue (List Span)
-decorators_d c zero ds = look (λ t. test (is_kind k_at t.kind) (stop TooManyDecorators (place_at t)) (done ds))
-decorators_d c (suc n) ds = look (λ t. test (is_kind k_at t.kind) (then (part_d Decorator c) (λ d. decorators_d c n (ds ++ (d ∷ [])))) (done ds))
+decorators_d c zero ds = look (λ t. test (is_kind k_at t.kind.code) (stop TooManyDecorators (span_of t)) (done ds))
+decorators_d c (suc n) ds = look (λ t. test (is_kind k_at t.kind.code) (then (part_d Decorator c) (λ d. decorators_d c n (ds ++ (d ∷ [])))) (done ds))
 
 -- a token of a kind, if it stands there
 unfoldable pub optional_d : ℕ → Dialogue (Option Span)
-optional_d k = eat (is_kind k) (λ t. done (Some (place_at t))) (λ t. done None)
+optional_d k = eat (is_kind k) (λ t. done (Some (span_of t))) (λ t. done None)
 
 -- `?`, in TypeScript
 unfoldable pub question_d : Bool → Dialogue (Option Span)
@@ -46,7 +43,7 @@ question_d ts = test ts (optional_d k_question) (done None)
 
 -- a type annotation at `:`, in TypeScript
 unfoldable pub type_d : Bool → ℕ → Dialogue (Option Span)
-type_d ts c = look (λ t. test (ts && is_kind k_colon t.kind) (then (part_d TypeAnnotation c) (λ s. done (Some s))) (done None))
+type_d ts c = look (λ t. test (ts && is_kind k_colon t.kind.code) (then (part_d TypeAnnotation c) (λ s. done (Some s))) (done None))
 
 -- an initializer after `=`
 unfoldable pub value_d : ℕ → Dialogue (Option Span)
@@ -54,12 +51,16 @@ value_d c = eat (is_kind k_eq) (λ t. then (part_d Expression (changed_bits Init
 
 -- a semicolon can be inserted before `}`, Eof or a token after a line break
 abbrev pub can_insert : Token → Bool
-can_insert t = is_kind k_rcurly t.kind || (is_kind k_eof t.kind || t.line_break)
+can_insert t = is_kind k_rcurly t.kind.code || (is_kind k_eof t.kind.code || t.line_break)
+
+-- a semicolon, given or inserted; else what is done at the token without
+abbrev pub semicolon_or_d : (Token → Dialogue Unit) → Dialogue Unit
+semicolon_or_d missing = eat (is_kind k_semicolon) (λ t. done tt) (λ t. test (can_insert t) (done tt) (missing t))
 
 -- a semicolon, given or inserted; else 49 at the token
 unfoldable pub semicolon_d : Dialogue Unit
-semicolon_d = eat (is_kind k_semicolon) (λ t. done tt) (λ t. test (can_insert t) (done tt) (stop ExpectToken (place_at t)))
+semicolon_d = semicolon_or_d (λ t. stop ExpectToken (span_of t))
 
 -- the same of an accessor property; else 50, empty at the end of the last token taken
 unfoldable pub inserted_d : Dialogue Unit
-inserted_d = eat (is_kind k_semicolon) (λ t. done tt) (λ t. test (can_insert t) (done tt) (last (λ e. stop AutoSemicolonInsertion (record { start = e; end = e }))))
+inserted_d = semicolon_or_d (λ t. last (λ e. stop AutoSemicolonInsertion (record { start = e; end = e })))

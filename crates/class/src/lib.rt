@@ -4,15 +4,16 @@
 
 #![tactic(auto)]
 
-pub mod blocks;
-pub mod decorating;
-pub mod forms;
-pub mod judging;
-pub mod members;
-pub mod methods;
-pub mod naming;
-pub mod noting;
-pub mod properties;
-pub mod taking;
+mod blocks;
+mod decorating;
+mod forms;
+mod judging;
+mod members;
+mod methods;
+mod naming;
+mod noting;
+mod properties;
+mod reading;
+mod taking;
 
 pub use members::read_member;

@@ -2,26 +2,27 @@
 
 ghost use Rattle.std.specs.Prelude.{◌≡◌, Some, Ok};
 ghost use Rattle.class.specs.Members.{decorated_d, decorators_if, holds_decorators, is_bodiless, member_d, member_end_d, told_in};
+ghost use Rattle.class.specs.Reading.{Kept, Reads};
 ghost use Rattle.dialogue.specs.Spoken.{Spoke};
 ghost use Rattle.modifiers.specs.Lists.{entries};
 ghost use Rattle.reader.specs.Scenes.{scene};
 ghost use Rattle.records.specs.Decorators.{spans_of};
 ghost use Rattle.records.specs.Told.{told_by};
 
-use crate::decorating::{note_decorators, take_decorators};
-use crate::forms::read_form;
+use crate::decorating::{Before, note_decorators, take_decorators};
+use crate::reading::Reading;
 use crate::taking::{is, skip_semicolons};
 use dialogue::Fatal;
 use keywords::{ListSettings, parse_modifiers};
 use kinds::context::Context;
 use list::list::List;
-use modifiers::Modifiers;
 use parts::Span;
 use reader::TokenReader;
 use records::{Decorators, Form, MemberRecord};
 use reports::Report;
+use rules::Rule;
 use script::ScriptReader;
-use token::kind;
+use token::Kind;
 
 const SETTINGS: ListSettings = ListSettings {
     const_allowed: true,
@@ -32,10 +33,9 @@ fn is_bodiless(form: Form) -> bool
     ensures { result ≡ is_bodiless form }
 {
     match form {
-        Form::Method(m) => m.facts.body_start.is_none(),
-        Form::Getter(m) => m.facts.body_start.is_none(),
-        Form::Setter(m) => m.facts.body_start.is_none(),
-        Form::Constructor(m) => m.facts.body_start.is_none(),
+        Form::Method(m) | Form::Getter(m) | Form::Setter(m) | Form::Constructor(m) => {
+            m.facts.body_start.is_none()
+        }
         _ => false,
     }
 }
@@ -43,11 +43,7 @@ fn is_bodiless(form: Form) -> bool
 fn holds_decorators(form: Form) -> bool
     ensures { result ≡ holds_decorators form }
 {
-    match form {
-        Form::IndexSignature { .. } => false,
-        Form::StaticBlock(_) => false,
-        _ => true,
-    }
+    !matches!(form, Form::IndexSignature { .. } | Form::StaticBlock(_))
 }
 
 fn decorators_if(holds: bool, decorators: Decorators) -> Decorators
@@ -63,39 +59,40 @@ fn decorators_if(holds: bool, decorators: Decorators) -> Decorators
 fn end_member<S: ScriptReader>(
     script: &mut S,
     start: u32,
-    modifiers: Modifiers,
-    decorators: Decorators,
+    before: Before,
     form: Form,
     reports: &mut List<'_, Report>,
 ) -> MemberRecord
-    ensures { Spoke (member_end_d start (entries modifiers) (spans_of decorators) form) (scene S.TokenReader script.old) (scene S.TokenReader script.new) reports.old reports.new (Ok (Some (told_by result))) }
+    ensures { Spoke (member_end_d start (entries before.modifiers) (spans_of before.decorators) form) (scene S.TokenReader script.old) (scene S.TokenReader script.new) reports.old reports.new (Ok (Some (told_by result))) }
 {
-    note_decorators(18, decorators_if(is_bodiless(form), decorators), reports);
+    let noted = decorators_if(is_bodiless(form), before.decorators);
+    note_decorators(Rule::DecoratorOnOverload, noted, reports);
     let end = script.last_end();
-    let held = decorators_if(holds_decorators(form), decorators);
     MemberRecord {
         span: Span { start, end },
-        modifiers,
-        decorators: held,
+        modifiers: before.modifiers,
+        decorators: decorators_if(holds_decorators(form), before.decorators),
         form,
     }
 }
 
-fn read_decorated<S: ScriptReader>(
-    script: &mut S,
-    is_ts: bool,
-    context: &mut Context,
-    start: u32,
-    decorators: Decorators,
-    reports: &mut List<'_, Report>,
-) -> Result<Option<MemberRecord>, Fatal>
-    ensures spoke { Spoke (decorated_d is_ts context.old.bits start (spans_of decorators)) (scene S.TokenReader script.old) (scene S.TokenReader script.new) reports.old reports.new (told_in result) }
-    ensures context { context.new ≡ context.old }
-{
-    let modifiers = parse_modifiers(script, SETTINGS, reports);
-    match read_form(script, is_ts, context, modifiers, decorators, reports) {
-        Ok(form) => Ok(Some(end_member(script, start, modifiers, decorators, form, reports))),
-        Err(fatal) => Err(fatal),
+impl<S: ScriptReader> Reading<'_, '_, S> {
+    fn read_decorated(
+        &mut self,
+        context: &mut Context,
+        start: u32,
+        decorators: Decorators,
+    ) -> Result<Option<MemberRecord>, Fatal>
+        ensures spoke { Reads S.TokenReader (decorated_d self.old.is_ts context.old.bits start (spans_of decorators)) self.old self.new (told_in result) }
+        ensures context { context.new ≡ context.old }
+        ensures kept { Kept self.old self.new }
+    {
+        let before = Before {
+            decorators,
+            modifiers: parse_modifiers(self.script, SETTINGS, self.reports),
+        };
+        let form = self.read_form(context, before)?;
+        Ok(Some(end_member(self.script, start, before, form, self.reports)))
     }
 }
 
@@ -111,11 +108,14 @@ pub fn read_member<S: ScriptReader>(
 {
     skip_semicolons(script);
     let t = script.current();
-    if is(t, kind::RCURLY) {
+    if is(t, Kind::RCURLY) {
         return Ok(None);
     }
-    match take_decorators(script, *context, 16, Decorators::none(), reports) {
-        Ok(decorators) => read_decorated(script, is_ts, context, t.start, decorators, reports),
-        Err(fatal) => Err(fatal),
-    }
+    let decorators = take_decorators(script, *context, reports)?;
+    let mut reading = Reading {
+        script,
+        is_ts,
+        reports,
+    };
+    reading.read_decorated(context, t.start, decorators)
 }

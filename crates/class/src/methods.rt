@@ -2,14 +2,16 @@
 
 ghost use Rattle.std.specs.Prelude.{◌≡◌, Ok};
 ghost use Rattle.class.specs.Forms.{accessor_d, accessor_end_d, accessor_form, accessor_rest_d, constructor_d, constructor_end_d, constructor_rest_d, element_checks_d, method_end_d, method_form_d};
+ghost use Rattle.class.specs.Reading.{Kept, Reads};
 ghost use Rattle.dialogue.specs.Spoken.{Spoke};
 ghost use Rattle.modifiers.specs.Lists.{entries};
-ghost use Rattle.reader.specs.Scenes.{Scene, scene};
+ghost use Rattle.reader.specs.Scenes.{Scene};
 ghost use Rattle.records.specs.Decorators.{spans_of};
 
-use crate::decorating::note_decorators;
+use crate::decorating::{Before, note_decorators};
 use crate::judging::{method_of, note_accessor, note_constructor, note_plain};
-use crate::naming::{ReadName, read_name};
+use crate::naming::ReadName;
+use crate::reading::Reading;
 use crate::taking::take_method;
 use checks::class_check::ClassCheck;
 use checks::class_checks::run_check;
@@ -19,8 +21,9 @@ use list::list::List;
 use modifiers::Modifiers;
 use parts::MethodFacts;
 use reader::TokenReader;
-use records::{Decorators, Form, Method};
+use records::{Form, Method};
 use reports::Report;
+use rules::Rule;
 use script::ScriptReader;
 
 /// Checks what no member has.
@@ -57,46 +60,9 @@ fn end_accessor(
 {
     let m = method_of(name, modifiers, false, false, facts);
     let ambient = context.contains(ContextFlag::Ambient);
-    note_accessor(is_ts, getter, ambient, name.code, m, reports);
+    note_accessor(is_ts, getter, ambient, name.special, m, reports);
     run_check(ClassCheck::Accessor, modifiers, reports);
     accessor_form(getter, m)
-}
-
-fn read_accessor_rest<S: ScriptReader>(
-    script: &mut S,
-    is_ts: bool,
-    context: Context,
-    modifiers: Modifiers,
-    getter: bool,
-    name: ReadName,
-    reports: &mut List<'_, Report>,
-) -> Result<Form, Fatal>
-    ensures { Spoke (accessor_rest_d is_ts context.bits (entries modifiers) getter name) (scene S.TokenReader script.old) (scene S.TokenReader script.new) reports.old reports.new result }
-{
-    match take_method(script, context, reports) {
-        Ok(facts) => Ok(end_accessor(is_ts, context, modifiers, getter, name, facts, reports)),
-        Err(fatal) => Err(fatal),
-    }
-}
-
-/// Reads a getter or a setter after its keyword.
-pub(crate) fn read_accessor<S: ScriptReader>(
-    script: &mut S,
-    is_ts: bool,
-    context: &mut Context,
-    modifiers: Modifiers,
-    getter: bool,
-    reports: &mut List<'_, Report>,
-) -> Result<Form, Fatal>
-    ensures spoke { Spoke (accessor_d is_ts context.old.bits (entries modifiers) getter) (scene S.TokenReader script.old) (scene S.TokenReader script.new) reports.old reports.new result }
-    ensures context { context.new ≡ context.old }
-{
-    check_element(is_ts, modifiers, reports);
-    let here = *context;
-    match read_name(script, is_ts, context, modifiers, reports) {
-        Ok(name) => read_accessor_rest(script, is_ts, here, modifiers, getter, name, reports),
-        Err(fatal) => Err(fatal),
-    }
 }
 
 fn end_constructor(
@@ -110,42 +76,8 @@ fn end_constructor(
 {
     let m = method_of(name, modifiers, false, false, facts);
     let ambient = context.contains(ContextFlag::Ambient);
-    note_constructor(ambient, name.code, m, reports);
+    note_constructor(ambient, name.special, m, reports);
     Form::Constructor(m)
-}
-
-fn read_constructor_rest<S: ScriptReader>(
-    script: &mut S,
-    context: Context,
-    modifiers: Modifiers,
-    name: ReadName,
-    reports: &mut List<'_, Report>,
-) -> Result<Form, Fatal>
-    ensures { Spoke (constructor_rest_d context.bits (entries modifiers) name) (scene S.TokenReader script.old) (scene S.TokenReader script.new) reports.old reports.new result }
-{
-    match take_method(script, context, reports) {
-        Ok(facts) => Ok(end_constructor(context, modifiers, name, facts, reports)),
-        Err(fatal) => Err(fatal),
-    }
-}
-
-/// Reads a constructor after its name.
-pub(crate) fn read_constructor<S: ScriptReader>(
-    script: &mut S,
-    is_ts: bool,
-    context: Context,
-    modifiers: Modifiers,
-    decorators: Decorators,
-    name: ReadName,
-    reports: &mut List<'_, Report>,
-) -> Result<Form, Fatal>
-    ensures { Spoke (constructor_d is_ts context.bits (entries modifiers) (spans_of decorators) name) (scene S.TokenReader script.old) (scene S.TokenReader script.new) reports.old reports.new result }
-{
-    note_decorators(19, decorators, reports);
-    check_element(is_ts, modifiers, reports);
-    run_check(ClassCheck::ConstInOut, modifiers, reports);
-    run_check(ClassCheck::Constructor, modifiers, reports);
-    read_constructor_rest(script, context, modifiers, name, reports)
 }
 
 fn end_method(
@@ -161,27 +93,106 @@ fn end_method(
 {
     let m = method_of(name, modifiers, optional, generator, facts);
     let ambient = context.contains(ContextFlag::Ambient);
-    note_plain(ambient, name.code, m, reports);
+    note_plain(ambient, name.special, m, reports);
     Form::Method(m)
 }
 
-/// Reads any other method after its name.
-pub(crate) fn read_method<S: ScriptReader>(
-    script: &mut S,
-    context: Context,
-    modifiers: Modifiers,
-    optional: bool,
-    generator: bool,
-    name: ReadName,
-    reports: &mut List<'_, Report>,
-) -> Result<Form, Fatal>
-    ensures { Spoke (method_form_d context.bits (entries modifiers) optional generator name) (scene S.TokenReader script.old) (scene S.TokenReader script.new) reports.old reports.new result }
-{
-    run_check(ClassCheck::Method, modifiers, reports);
-    match take_method(script, context, reports) {
-        Ok(facts) => Ok(end_method(
-            context, modifiers, optional, generator, name, facts, reports,
-        )),
-        Err(fatal) => Err(fatal),
+impl<S: ScriptReader> Reading<'_, '_, S> {
+    fn read_accessor_rest(
+        &mut self,
+        context: Context,
+        modifiers: Modifiers,
+        getter: bool,
+        name: ReadName,
+    ) -> Result<Form, Fatal>
+        ensures spoke { Reads S.TokenReader (accessor_rest_d self.old.is_ts context.bits (entries modifiers) getter name) self.old self.new result }
+        ensures kept { Kept self.old self.new }
+    {
+        let facts = take_method(self.script, context, self.reports)?;
+        Ok(end_accessor(
+            self.is_ts,
+            context,
+            modifiers,
+            getter,
+            name,
+            facts,
+            self.reports,
+        ))
+    }
+
+    /// Reads a getter or a setter after its keyword.
+    pub(crate) fn read_accessor(
+        &mut self,
+        context: &mut Context,
+        modifiers: Modifiers,
+        getter: bool,
+    ) -> Result<Form, Fatal>
+        ensures spoke { Reads S.TokenReader (accessor_d self.old.is_ts context.old.bits (entries modifiers) getter) self.old self.new result }
+        ensures context { context.new ≡ context.old }
+        ensures kept { Kept self.old self.new }
+    {
+        check_element(self.is_ts, modifiers, self.reports);
+        let here = *context;
+        let name = self.read_name(context, modifiers)?;
+        self.read_accessor_rest(here, modifiers, getter, name)
+    }
+
+    fn read_constructor_rest(
+        &mut self,
+        context: Context,
+        modifiers: Modifiers,
+        name: ReadName,
+    ) -> Result<Form, Fatal>
+        ensures spoke { Reads S.TokenReader (constructor_rest_d context.bits (entries modifiers) name) self.old self.new result }
+        ensures kept { Kept self.old self.new }
+    {
+        let facts = take_method(self.script, context, self.reports)?;
+        Ok(end_constructor(context, modifiers, name, facts, self.reports))
+    }
+
+    /// Reads a constructor after its name.
+    pub(crate) fn read_constructor(
+        &mut self,
+        context: Context,
+        before: Before,
+        name: ReadName,
+    ) -> Result<Form, Fatal>
+        ensures spoke { Reads S.TokenReader (constructor_d self.old.is_ts context.bits (entries before.modifiers) (spans_of before.decorators) name) self.old self.new result }
+        ensures kept { Kept self.old self.new }
+    {
+        note_decorators(
+            Rule::DecoratorsNotValidHere,
+            before.decorators,
+            self.reports,
+        );
+        check_element(self.is_ts, before.modifiers, self.reports);
+        run_check(ClassCheck::ConstInOut, before.modifiers, self.reports);
+        run_check(ClassCheck::Constructor, before.modifiers, self.reports);
+        self.read_constructor_rest(context, before.modifiers, name)
+    }
+
+    /// Reads any other method after its name.
+    pub(crate) fn read_method(
+        &mut self,
+        context: Context,
+        modifiers: Modifiers,
+        optional: bool,
+        generator: bool,
+        name: ReadName,
+    ) -> Result<Form, Fatal>
+        ensures spoke { Reads S.TokenReader (method_form_d context.bits (entries modifiers) optional generator name) self.old self.new result }
+        ensures kept { Kept self.old self.new }
+    {
+        run_check(ClassCheck::Method, modifiers, self.reports);
+        let facts = take_method(self.script, context, self.reports)?;
+        Ok(end_method(
+            context,
+            modifiers,
+            optional,
+            generator,
+            name,
+            facts,
+            self.reports,
+        ))
     }
 }

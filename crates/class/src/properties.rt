@@ -1,21 +1,19 @@
 //! Properties, accessor properties, and what is either one or a method.
 
 ghost use Rattle.std.specs.Prelude.{◌≡◌, Ok};
-ghost use Rattle.class.specs.Properties.{accessor_name_reports, accessor_named_d, accessor_of, accessor_property_close_d, accessor_property_d, accessor_property_end_d, accessor_property_reports, banged_d, choice_d, definite_d, definite_reports, entry_place, field_name_reports, initializer_reports, is_banned, is_method, is_narrow, is_string, joined, marked_d, property_close_d, property_d, property_end_d, property_of, property_or_method_d, property_reports, typed_d};
+ghost use Rattle.class.specs.Properties.{accessor_name_reports, accessor_named_d, accessor_of, accessor_property_close_d, accessor_property_d, accessor_property_end_d, accessor_property_reports, banged_d, choice_d, definite_d, definite_reports, entry_place, field_name_reports, initializer_reports, is_banned, is_method, is_narrow, joined, marked_d, property_close_d, property_d, property_end_d, property_of, property_or_method_d, property_reports, typed_d};
+ghost use Rattle.class.specs.Reading.{Kept, Reads};
 ghost use Rattle.dialogue.specs.Spoken.{Spoke};
 ghost use Rattle.kinds.specs.declared.modifier_kind.ModifierKind.TheVariants.{Abstract};
 ghost use Rattle.list.specs.Lists.{Noted};
 ghost use Rattle.modifiers.specs.Entries.{entry_of};
 ghost use Rattle.modifiers.specs.Lists.{entries};
-ghost use Rattle.reader.specs.Scenes.{Scene, scene};
+ghost use Rattle.reader.specs.Scenes.{Scene};
 
-use crate::judging::{both, is_private, is_prototype, only_if, unless};
-use crate::methods::read_method;
-use crate::naming::{ReadName, read_name};
-use crate::noting::{note_at, note_if};
-use crate::taking::{
-    is, optional, take_inserted, take_question, take_semicolon, take_type, take_value,
-};
+use crate::naming::{ReadName, SpecialName};
+use crate::noting::{note, note_at, note_if};
+use crate::reading::Reading;
+use crate::taking::{is, optional, take_inserted, take_question, take_semicolon};
 use checks::class_check::ClassCheck;
 use checks::class_checks::run_check;
 use dialogue::Fatal;
@@ -27,36 +25,23 @@ use parts::Span;
 use reader::TokenReader;
 use records::{Accessor, Form, NameKind, Property};
 use reports::Report;
+use rules::Rule;
 use script::ScriptReader;
-use token::{Token, kind};
+use token::{Kind, Token};
+
+/// A name, and the places of `?` and `!` after it.
+#[derive(Clone, Copy, Debug, PartialEq, Eq)]
+pub struct MarkedName {
+    pub name: ReadName,
+    pub question: Option<Span>,
+    pub bang: Option<Span>,
+}
 
 /// A type annotation and an initializer.
-#[derive(Clone, Copy)]
+#[derive(Clone, Copy, Debug, PartialEq, Eq)]
 pub struct Typed {
     pub type_annotation: Option<Span>,
     pub value: Option<Span>,
-}
-
-fn read_typed<S: ScriptReader>(
-    script: &mut S,
-    is_ts: bool,
-    context: &mut Context,
-    reports: &mut List<'_, Report>,
-) -> Result<Typed, Fatal>
-    ensures spoke { Spoke (typed_d is_ts context.old.bits) (scene S.TokenReader script.old) (scene S.TokenReader script.new) reports.old reports.new result }
-    ensures context { context.new ≡ context.old }
-{
-    let type_annotation = match take_type(script, is_ts, *context, reports) {
-        Ok(span) => span,
-        Err(refused) => return Err(refused),
-    };
-    match take_value(script, context, reports) {
-        Ok(value) => Ok(Typed {
-            type_annotation,
-            value,
-        }),
-        Err(fatal) => Err(fatal),
-    }
 }
 
 fn note_definite(
@@ -72,11 +57,11 @@ fn note_definite(
         return;
     };
     if value.is_some() {
-        note_if(true, 21, place, reports);
+        note(Rule::DefiniteWithInitializer, place, reports);
     } else if annotation.is_some() {
-        note_if(narrow, 23, place, reports);
+        note_if(narrow, Rule::DefiniteNotPermitted, place, reports);
     } else {
-        note_if(true, 22, place, reports);
+        note(Rule::DefiniteWithoutType, place, reports);
     }
 }
 
@@ -86,16 +71,16 @@ fn is_narrow(ambient: bool, is_static: bool, is_abstract: bool) -> bool
     ambient || is_static || is_abstract
 }
 
-fn accessor_of(name: ReadName, modifiers: Modifiers, bang: Option<Span>, typed: Typed) -> Accessor
-    ensures { result ≡ accessor_of name (entries modifiers) bang typed }
+fn accessor_of(marked: MarkedName, modifiers: Modifiers, typed: Typed) -> Accessor
+    ensures { result ≡ accessor_of marked.name (entries modifiers) marked.bang typed }
 {
     Accessor {
-        name: name.name,
+        name: marked.name.name,
         accessibility: modifiers.accessibility(),
         is_static: modifiers.contains(ModifierKind::Static),
         is_abstract: modifiers.contains(ModifierKind::Abstract),
         is_override: modifiers.contains(ModifierKind::Override),
-        definite: bang.is_some(),
+        definite: marked.bang.is_some(),
         type_annotation: typed.type_annotation,
         value: typed.value,
     }
@@ -116,76 +101,34 @@ fn note_accessor_property(
 fn end_accessor_property(
     context: Context,
     modifiers: Modifiers,
-    name: ReadName,
-    bang: Option<Span>,
+    marked: MarkedName,
     typed: Typed,
     reports: &mut List<'_, Report>,
 ) -> Form
-    ensures { (s : Scene) → Spoke (accessor_property_end_d context.bits (entries modifiers) name bang typed) s s reports.old reports.new (Ok result) }
+    ensures { (s : Scene) → Spoke (accessor_property_end_d context.bits (entries modifiers) marked.name marked.bang typed) s s reports.old reports.new (Ok result) }
 {
     run_check(ClassCheck::AccessorProperty, modifiers, reports);
-    let a = accessor_of(name, modifiers, bang, typed);
+    let a = accessor_of(marked, modifiers, typed);
     let ambient = context.contains(ContextFlag::Ambient);
     let declared = modifiers.contains(ModifierKind::Declare);
-    note_accessor_property(ambient, unless(declared, bang), a, reports);
+    let bang = if declared { None } else { marked.bang };
+    note_accessor_property(ambient, bang, a, reports);
     Form::Accessor(a)
 }
 
-fn close_accessor_property<S: ScriptReader>(
-    script: &mut S,
-    context: Context,
-    modifiers: Modifiers,
-    name: ReadName,
-    bang: Option<Span>,
-    typed: Typed,
-    reports: &mut List<'_, Report>,
-) -> Result<Form, Fatal>
-    ensures { Spoke (accessor_property_close_d context.bits (entries modifiers) name bang typed) (scene S.TokenReader script.old) (scene S.TokenReader script.new) reports.old reports.new result }
-{
-    match take_inserted(script, reports) {
-        Ok(()) => Ok(end_accessor_property(context, modifiers, name, bang, typed, reports)),
-        Err(fatal) => Err(fatal),
-    }
-}
-
-fn read_accessor_property<S: ScriptReader>(
-    script: &mut S,
-    is_ts: bool,
-    context: &mut Context,
-    modifiers: Modifiers,
-    name: ReadName,
-    bang: Option<Span>,
-    reports: &mut List<'_, Report>,
-) -> Result<Form, Fatal>
-    ensures spoke { Spoke (accessor_property_d is_ts context.old.bits (entries modifiers) name bang) (scene S.TokenReader script.old) (scene S.TokenReader script.new) reports.old reports.new result }
-    ensures context { context.new ≡ context.old }
-{
-    let here = *context;
-    match read_typed(script, is_ts, context, reports) {
-        Ok(typed) => close_accessor_property(script, here, modifiers, name, bang, typed, reports),
-        Err(fatal) => Err(fatal),
-    }
-}
-
-fn property_of(
-    name: ReadName,
-    modifiers: Modifiers,
-    question: Option<Span>,
-    bang: Option<Span>,
-    typed: Typed,
-) -> Property
-    ensures { result ≡ property_of name (entries modifiers) question bang typed }
+fn property_of(marked: MarkedName, modifiers: Modifiers, typed: Typed) -> Property
+    ensures { result ≡ property_of marked.name (entries modifiers) marked.question marked.bang typed }
 {
     Property {
-        name: name.name,
+        name: marked.name.name,
         accessibility: modifiers.accessibility(),
         is_static: modifiers.contains(ModifierKind::Static),
         is_abstract: modifiers.contains(ModifierKind::Abstract),
         is_override: modifiers.contains(ModifierKind::Override),
         declare: modifiers.contains(ModifierKind::Declare),
         readonly: modifiers.contains(ModifierKind::Readonly),
-        optional: question.is_some(),
-        definite: bang.is_some(),
+        optional: marked.question.is_some(),
+        definite: marked.bang.is_some(),
         type_annotation: typed.type_annotation,
         value: typed.value,
     }
@@ -195,12 +138,8 @@ fn property_of(
 fn abstract_place(modifiers: Modifiers) -> Option<Span>
     ensures { result ≡ entry_place (entry_of Abstract (entries modifiers)) }
 {
-    let Some(word) = modifiers.get(ModifierKind::Abstract) else {
-        return None;
-    };
-    let Some(end) = word.end() else {
-        return None;
-    };
+    let word = modifiers.get(ModifierKind::Abstract)?;
+    let end = word.end()?;
     Some(Span {
         start: word.start,
         end,
@@ -209,17 +148,21 @@ fn abstract_place(modifiers: Modifiers) -> Option<Span>
 
 fn note_field_name(
     ambient: bool,
-    code: u8,
+    special: Option<SpecialName>,
     keyword: Option<Span>,
     p: Property,
     reports: &mut List<'_, Report>,
 )
-    ensures { Noted reports.old reports.new (field_name_reports ambient code keyword p) }
+    ensures { Noted reports.old reports.new (field_name_reports ambient special keyword p) }
 {
-    note_if(code == 1, 27, p.name.span, reports);
-    let shadows = both(p.is_static, is_prototype(ambient, code));
-    note_if(shadows, 28, p.name.span, reports);
-    note_at(29, only_if(is_private(p.name.kind), keyword), reports);
+    let constructor = special == Some(SpecialName::Constructor);
+    note_if(constructor, Rule::FieldConstructor, p.name.span, reports);
+    let prototype = special == Some(SpecialName::Prototype);
+    let shadows = p.is_static && prototype && !ambient;
+    note_if(shadows, Rule::StaticPrototype, p.name.span, reports);
+    if p.name.kind == NameKind::Private {
+        note_at(Rule::AbstractPrivateName, keyword, reports);
+    }
 }
 
 fn is_banned(ambient: bool, p: Property) -> bool
@@ -232,26 +175,29 @@ fn is_banned(ambient: bool, p: Property) -> bool
 fn note_initializer(ambient: bool, p: Property, reports: &mut List<'_, Report>)
     ensures { Noted reports.old reports.new (initializer_reports ambient p) }
 {
+    let given = p.value.is_some();
     note_if(
-        both(p.is_abstract, p.value.is_some()),
-        30,
+        p.is_abstract && given,
+        Rule::AbstractInitializer,
         p.name.span,
         reports,
     );
-    note_at(31, only_if(is_banned(ambient, p), p.value), reports);
+    if is_banned(ambient, p) {
+        note_at(Rule::AmbientInitializer, p.value, reports);
+    }
 }
 
 fn note_property(
     ambient: bool,
-    code: u8,
+    special: Option<SpecialName>,
     keyword: Option<Span>,
     bang: Option<Span>,
     p: Property,
     reports: &mut List<'_, Report>,
 )
-    ensures { Noted reports.old reports.new (property_reports ambient code keyword bang p) }
+    ensures { Noted reports.old reports.new (property_reports ambient special keyword bang p) }
 {
-    note_field_name(ambient, code, keyword, p, reports);
+    note_field_name(ambient, special, keyword, p, reports);
     note_initializer(ambient, p, reports);
     let narrow = is_narrow(ambient, p.is_static, p.is_abstract);
     note_definite(bang, p.value, p.type_annotation, narrow, reports);
@@ -260,219 +206,227 @@ fn note_property(
 fn end_property(
     context: Context,
     modifiers: Modifiers,
-    name: ReadName,
-    question: Option<Span>,
-    bang: Option<Span>,
+    marked: MarkedName,
     typed: Typed,
     reports: &mut List<'_, Report>,
 ) -> Form
-    ensures { (s : Scene) → Spoke (property_end_d context.bits (entries modifiers) name question bang typed) s s reports.old reports.new (Ok result) }
+    ensures { (s : Scene) → Spoke (property_end_d context.bits (entries modifiers) marked.name marked.question marked.bang typed) s s reports.old reports.new (Ok result) }
 {
     run_check(ClassCheck::Property, modifiers, reports);
-    let p = property_of(name, modifiers, question, bang, typed);
+    let p = property_of(marked, modifiers, typed);
     let ambient = context.contains(ContextFlag::Ambient);
     let keyword = abstract_place(modifiers);
-    note_property(ambient, name.code, keyword, bang, p, reports);
+    note_property(
+        ambient,
+        marked.name.special,
+        keyword,
+        marked.bang,
+        p,
+        reports,
+    );
     Form::Property(p)
-}
-
-fn close_property<S: ScriptReader>(
-    script: &mut S,
-    context: Context,
-    modifiers: Modifiers,
-    name: ReadName,
-    question: Option<Span>,
-    bang: Option<Span>,
-    typed: Typed,
-    reports: &mut List<'_, Report>,
-) -> Result<Form, Fatal>
-    ensures { Spoke (property_close_d context.bits (entries modifiers) name question bang typed) (scene S.TokenReader script.old) (scene S.TokenReader script.new) reports.old reports.new result }
-{
-    match take_semicolon(script, reports) {
-        Ok(()) => Ok(end_property(context, modifiers, name, question, bang, typed, reports)),
-        Err(fatal) => Err(fatal),
-    }
-}
-
-fn read_property<S: ScriptReader>(
-    script: &mut S,
-    is_ts: bool,
-    context: &mut Context,
-    modifiers: Modifiers,
-    name: ReadName,
-    question: Option<Span>,
-    bang: Option<Span>,
-    reports: &mut List<'_, Report>,
-) -> Result<Form, Fatal>
-    ensures spoke { Spoke (property_d is_ts context.old.bits (entries modifiers) name question bang) (scene S.TokenReader script.old) (scene S.TokenReader script.new) reports.old reports.new result }
-    ensures context { context.new ≡ context.old }
-{
-    let here = *context;
-    match read_typed(script, is_ts, context, reports) {
-        Ok(typed) => close_property(
-            script, here, modifiers, name, question, bang, typed, reports,
-        ),
-        Err(fatal) => Err(fatal),
-    }
 }
 
 fn join(from: Option<Span>, to: Option<Span>) -> Option<Span>
     ensures { result ≡ joined from to }
 {
-    let Some(first) = from else {
-        return None;
-    };
-    match to {
-        Some(last) => Some(Span {
-            start: first.start,
-            end: last.end,
-        }),
-        None => None,
-    }
-}
-
-fn is_string(kind: NameKind) -> bool
-    ensures { result ≡ is_string kind }
-{
-    match kind {
-        NameKind::String => true,
-        _ => false,
-    }
+    Some(Span {
+        start: from?.start,
+        end: to?.end,
+    })
 }
 
 fn note_accessor_name(question: Option<Span>, name: ReadName, reports: &mut List<'_, Report>)
     ensures { Noted reports.old reports.new (accessor_name_reports question name) }
 {
-    note_at(25, question, reports);
-    let named = both(is_string(name.name.kind), name.code == 1);
-    note_if(named, 26, name.name.span, reports);
-}
-
-fn read_accessor_named<S: ScriptReader>(
-    script: &mut S,
-    is_ts: bool,
-    context: &mut Context,
-    modifiers: Modifiers,
-    name: ReadName,
-    question: Option<Span>,
-    bang: Option<Span>,
-    reports: &mut List<'_, Report>,
-) -> Result<Form, Fatal>
-    ensures spoke { Spoke (accessor_named_d is_ts context.old.bits (entries modifiers) name question bang) (scene S.TokenReader script.old) (scene S.TokenReader script.new) reports.old reports.new result }
-    ensures context { context.new ≡ context.old }
-{
-    note_accessor_name(question, name, reports);
-    read_accessor_property(script, is_ts, context, modifiers, name, bang, reports)
-}
-
-fn read_banged<S: ScriptReader>(
-    script: &mut S,
-    is_ts: bool,
-    context: &mut Context,
-    modifiers: Modifiers,
-    name: ReadName,
-    question: Option<Span>,
-    bang: Option<Span>,
-    reports: &mut List<'_, Report>,
-) -> Result<Form, Fatal>
-    ensures spoke { Spoke (banged_d is_ts context.old.bits (entries modifiers) name question bang) (scene S.TokenReader script.old) (scene S.TokenReader script.new) reports.old reports.new result }
-    ensures context { context.new ≡ context.old }
-{
-    note_at(24, join(question, bang), reports);
-    if modifiers.contains(ModifierKind::Accessor) {
-        return read_accessor_named(
-            script, is_ts, context, modifiers, name, question, bang, reports,
-        );
-    }
-    read_property(
-        script, is_ts, context, modifiers, name, question, bang, reports,
-    )
-}
-
-fn read_definite<S: ScriptReader>(
-    script: &mut S,
-    is_ts: bool,
-    context: &mut Context,
-    modifiers: Modifiers,
-    name: ReadName,
-    question: Option<Span>,
-    reports: &mut List<'_, Report>,
-) -> Result<Form, Fatal>
-    ensures spoke { Spoke (definite_d is_ts context.old.bits (entries modifiers) name question) (scene S.TokenReader script.old) (scene S.TokenReader script.new) reports.old reports.new result }
-    ensures context { context.new ≡ context.old }
-{
-    let bang = optional(script, kind::BANG);
-    read_banged(
-        script, is_ts, context, modifiers, name, question, bang, reports,
-    )
+    note_at(Rule::OptionalAccessor, question, reports);
+    let string = name.name.kind == NameKind::String;
+    let constructor = name.special == Some(SpecialName::Constructor);
+    note_if(
+        string && constructor,
+        Rule::AccessorConstructor,
+        name.name.span,
+        reports,
+    );
 }
 
 fn is_method(generator: bool, t: Token) -> bool
     ensures { result ≡ is_method generator t }
 {
-    generator || is(t, kind::LPAREN) || is(t, kind::LANGLE)
+    generator || is(t, Kind::LPAREN) || is(t, Kind::LANGLE)
 }
 
-fn read_choice<S: ScriptReader>(
-    script: &mut S,
-    is_ts: bool,
-    context: &mut Context,
-    modifiers: Modifiers,
-    generator: bool,
-    name: ReadName,
-    question: Option<Span>,
-    reports: &mut List<'_, Report>,
-) -> Result<Form, Fatal>
-    ensures spoke { Spoke (choice_d is_ts context.old.bits (entries modifiers) generator name question) (scene S.TokenReader script.old) (scene S.TokenReader script.new) reports.old reports.new result }
-    ensures context { context.new ≡ context.old }
-{
-    if is_method(generator, script.current()) {
-        return read_method(
-            script,
-            *context,
-            modifiers,
-            question.is_some(),
-            generator,
-            name,
-            reports,
-        );
+impl<S: ScriptReader> Reading<'_, '_, S> {
+    fn read_typed(&mut self, context: &mut Context) -> Result<Typed, Fatal>
+        ensures spoke { Reads S.TokenReader (typed_d self.old.is_ts context.old.bits) self.old self.new result }
+        ensures context { context.new ≡ context.old }
+        ensures kept { Kept self.old self.new }
+    {
+        let type_annotation = self.take_type(*context)?;
+        let value = self.take_value(context)?;
+        Ok(Typed {
+            type_annotation,
+            value,
+        })
     }
-    read_definite(script, is_ts, context, modifiers, name, question, reports)
-}
 
-fn read_marked<S: ScriptReader>(
-    script: &mut S,
-    is_ts: bool,
-    context: &mut Context,
-    modifiers: Modifiers,
-    generator: bool,
-    name: ReadName,
-    reports: &mut List<'_, Report>,
-) -> Result<Form, Fatal>
-    ensures spoke { Spoke (marked_d is_ts context.old.bits (entries modifiers) generator name) (scene S.TokenReader script.old) (scene S.TokenReader script.new) reports.old reports.new result }
-    ensures context { context.new ≡ context.old }
-{
-    let question = take_question(script, is_ts);
-    read_choice(
-        script, is_ts, context, modifiers, generator, name, question, reports,
-    )
-}
+    // Properties and accessor properties go the same way with other pieces; their dialogues are two, and so are these.
+    fn close_accessor_property(
+        &mut self,
+        context: Context,
+        modifiers: Modifiers,
+        marked: MarkedName,
+        typed: Typed,
+    ) -> Result<Form, Fatal>
+        ensures spoke { Reads S.TokenReader (accessor_property_close_d context.bits (entries modifiers) marked.name marked.bang typed) self.old self.new result }
+        ensures kept { Kept self.old self.new }
+    {
+        take_inserted(self.script, self.reports)?;
+        Ok(end_accessor_property(context, modifiers, marked, typed, self.reports))
+    }
 
-/// Reads a property or a method.
-pub(crate) fn read_property_or_method<S: ScriptReader>(
-    script: &mut S,
-    is_ts: bool,
-    context: &mut Context,
-    modifiers: Modifiers,
-    reports: &mut List<'_, Report>,
-) -> Result<Form, Fatal>
-    ensures spoke { Spoke (property_or_method_d is_ts context.old.bits (entries modifiers)) (scene S.TokenReader script.old) (scene S.TokenReader script.new) reports.old reports.new result }
-    ensures context { context.new ≡ context.old }
-{
-    let star = optional(script, kind::STAR);
-    let generator = star.is_some();
-    match read_name(script, is_ts, context, modifiers, reports) {
-        Ok(name) => read_marked(script, is_ts, context, modifiers, generator, name, reports),
-        Err(fatal) => Err(fatal),
+    fn read_accessor_property(
+        &mut self,
+        context: &mut Context,
+        modifiers: Modifiers,
+        marked: MarkedName,
+    ) -> Result<Form, Fatal>
+        ensures spoke { Reads S.TokenReader (accessor_property_d self.old.is_ts context.old.bits (entries modifiers) marked.name marked.bang) self.old self.new result }
+        ensures context { context.new ≡ context.old }
+        ensures kept { Kept self.old self.new }
+    {
+        let here = *context;
+        let typed = self.read_typed(context)?;
+        self.close_accessor_property(here, modifiers, marked, typed)
+    }
+
+    fn close_property(
+        &mut self,
+        context: Context,
+        modifiers: Modifiers,
+        marked: MarkedName,
+        typed: Typed,
+    ) -> Result<Form, Fatal>
+        ensures spoke { Reads S.TokenReader (property_close_d context.bits (entries modifiers) marked.name marked.question marked.bang typed) self.old self.new result }
+        ensures kept { Kept self.old self.new }
+    {
+        take_semicolon(self.script, self.reports)?;
+        Ok(end_property(context, modifiers, marked, typed, self.reports))
+    }
+
+    fn read_property(
+        &mut self,
+        context: &mut Context,
+        modifiers: Modifiers,
+        marked: MarkedName,
+    ) -> Result<Form, Fatal>
+        ensures spoke { Reads S.TokenReader (property_d self.old.is_ts context.old.bits (entries modifiers) marked.name marked.question marked.bang) self.old self.new result }
+        ensures context { context.new ≡ context.old }
+        ensures kept { Kept self.old self.new }
+    {
+        let here = *context;
+        let typed = self.read_typed(context)?;
+        self.close_property(here, modifiers, marked, typed)
+    }
+
+    fn read_accessor_named(
+        &mut self,
+        context: &mut Context,
+        modifiers: Modifiers,
+        marked: MarkedName,
+    ) -> Result<Form, Fatal>
+        ensures spoke { Reads S.TokenReader (accessor_named_d self.old.is_ts context.old.bits (entries modifiers) marked.name marked.question marked.bang) self.old self.new result }
+        ensures context { context.new ≡ context.old }
+        ensures kept { Kept self.old self.new }
+    {
+        note_accessor_name(marked.question, marked.name, self.reports);
+        self.read_accessor_property(context, modifiers, marked)
+    }
+
+    fn read_banged(
+        &mut self,
+        context: &mut Context,
+        modifiers: Modifiers,
+        marked: MarkedName,
+    ) -> Result<Form, Fatal>
+        ensures spoke { Reads S.TokenReader (banged_d self.old.is_ts context.old.bits (entries modifiers) marked.name marked.question marked.bang) self.old self.new result }
+        ensures context { context.new ≡ context.old }
+        ensures kept { Kept self.old self.new }
+    {
+        let both = join(marked.question, marked.bang);
+        note_at(Rule::OptionalDefinite, both, self.reports);
+        if modifiers.contains(ModifierKind::Accessor) {
+            return self.read_accessor_named(context, modifiers, marked);
+        }
+        self.read_property(context, modifiers, marked)
+    }
+
+    fn read_definite(
+        &mut self,
+        context: &mut Context,
+        modifiers: Modifiers,
+        name: ReadName,
+        question: Option<Span>,
+    ) -> Result<Form, Fatal>
+        ensures spoke { Reads S.TokenReader (definite_d self.old.is_ts context.old.bits (entries modifiers) name question) self.old self.new result }
+        ensures context { context.new ≡ context.old }
+        ensures kept { Kept self.old self.new }
+    {
+        let bang = optional(self.script, Kind::BANG);
+        let marked = MarkedName {
+            name,
+            question,
+            bang,
+        };
+        self.read_banged(context, modifiers, marked)
+    }
+
+    fn read_choice(
+        &mut self,
+        context: &mut Context,
+        modifiers: Modifiers,
+        generator: bool,
+        name: ReadName,
+        question: Option<Span>,
+    ) -> Result<Form, Fatal>
+        ensures spoke { Reads S.TokenReader (choice_d self.old.is_ts context.old.bits (entries modifiers) generator name question) self.old self.new result }
+        ensures context { context.new ≡ context.old }
+        ensures kept { Kept self.old self.new }
+    {
+        if is_method(generator, self.script.current()) {
+            return self.read_method(*context, modifiers, question.is_some(), generator, name);
+        }
+        self.read_definite(context, modifiers, name, question)
+    }
+
+    fn read_marked(
+        &mut self,
+        context: &mut Context,
+        modifiers: Modifiers,
+        generator: bool,
+        name: ReadName,
+    ) -> Result<Form, Fatal>
+        ensures spoke { Reads S.TokenReader (marked_d self.old.is_ts context.old.bits (entries modifiers) generator name) self.old self.new result }
+        ensures context { context.new ≡ context.old }
+        ensures kept { Kept self.old self.new }
+    {
+        let question = take_question(self.script, self.is_ts);
+        self.read_choice(context, modifiers, generator, name, question)
+    }
+
+    /// Reads a property or a method.
+    pub(crate) fn read_property_or_method(
+        &mut self,
+        context: &mut Context,
+        modifiers: Modifiers,
+    ) -> Result<Form, Fatal>
+        ensures spoke { Reads S.TokenReader (property_or_method_d self.old.is_ts context.old.bits (entries modifiers)) self.old self.new result }
+        ensures context { context.new ≡ context.old }
+        ensures kept { Kept self.old self.new }
+    {
+        let star = optional(self.script, Kind::STAR);
+        let generator = star.is_some();
+        let name = self.read_name(context, modifiers)?;
+        self.read_marked(context, modifiers, generator, name)
     }
 }

@@ -51,7 +51,7 @@ module _ {A B : Type 0} (f : A → Dialogue B) where
   follows (peek k) s = let x = follows (k (head (next s.tokens))) s in record { value = x.value; means = x.means; reports = x.reports }
   follows (last k) s = let x = follows (k s.last) s in record { value = x.value; means = x.means; reports = x.reports }
   follows (eat p k l) s =
-      let x = pick (p (head s.tokens).kind) (k (head s.tokens)) (l (head s.tokens)) (past_one s) s (follows (k (head s.tokens)) (past_one s)) (follows (l (head s.tokens)) s) in
+      let x = pick (p (head s.tokens).kind.code) (k (head s.tokens)) (l (head s.tokens)) (past_one s) s (follows (k (head s.tokens)) (past_one s)) (follows (l (head s.tokens)) s) in
       record { value = x.value; means = x.means; reports = x.reports }
   follows (take_semicolons d) s = let x = follows d (past (semicolons s.tokens) s) in record { value = x.value; means = x.means; reports = x.reports }
   follows (take_keywords t k) s =
@@ -86,6 +86,3 @@ module _ {A B : Type 0} (f : A → Dialogue B) where
             subst (λ (xs : List Report). Noted l l' xs) (sym (x.reports ∙ ap (λ l. gains d s ++ l) (ap₂ gains_of (sym one.value) (sym one.means)) ∙ append-nil (gains d s)))
             one.reports;
       }
-
--- every way on, for the search
-pub ruleset onward = (then_spoke, then_stopped)

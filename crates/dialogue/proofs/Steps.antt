@@ -31,10 +31,6 @@ pub stop_spoke : {A : Type 0} (f : Fatal) (p : Span) {s s' : Scene} {l l' : Held
 stop_spoke f p {l = l} {l' = l'} e q n = record { value = refl; means = e; reports = subst (λ (r : Report). Noted l l' (r ∷ [])) q n }
 
 module _ {A : Type 0} {s s' : Scene} {l l' : Held Report} {r : Result A Fatal} where
-  -- the same, from another name for where it began
-  pub spoke_from : (d : Dialogue A) {s₁ : Scene} → s₁ ≡ s → Spoke d s s' l l' r → Spoke d s₁ s' l l' r
-  spoke_from d e x = subst (λ (z : Scene). Spoke d z s' l l' r) (sym e) x
-
   pub note_spoke : (qs : List Report) (d : Dialogue A) {ps : List Report} {l₁ : Held Report} → ps ≡ qs → Noted l l₁ ps → Spoke d s s' l₁ l' r → Spoke (note qs d) s s' l l' r
   note_spoke qs d {l₁ = l₁} e n x = record { value = x.value; means = x.means; reports = noted_then (subst (λ (z : List Report). Noted l l₁ z) e n) x.reports }
 
@@ -53,9 +49,9 @@ module _ {A : Type 0} {s s' : Scene} {l l' : Held Report} {r : Result A Fatal} w
       let y : Spoke (k s.last) s s' l l' r = subst (λ (u : ℕ). Spoke (k u) s s' l l' r) p x in
       record { value = y.value; means = y.means; reports = y.reports }
 
-  pub eat_yes : (p : ℕ → Bool) (k j : Token → Dialogue A) {t : Token} {s₁ : Scene} → t ≡ head s.tokens → p t.kind ≡ true → s₁ ≡ past_one s → Spoke (k t) s₁ s' l l' r → Spoke (eat p k j) s s' l l' r
+  pub eat_yes : (p : ℕ → Bool) (k j : Token → Dialogue A) {t : Token} {s₁ : Scene} → t ≡ head s.tokens → p t.kind.code ≡ true → s₁ ≡ past_one s → Spoke (k t) s₁ s' l l' r → Spoke (eat p k j) s s' l l' r
   eat_yes p k j {t} {s₁} e h f x =
-      let b : p (head s.tokens).kind ≡ true = sym (ap (λ (u : Token). p u.kind) e) ∙ h in
+      let b : p (head s.tokens).kind.code ≡ true = sym (ap (λ (u : Token). p u.kind.code) e) ∙ h in
       let y : Spoke (k (head s.tokens)) (past_one s) s' l l' r = subst (λ (z : Scene). Spoke (k (head s.tokens)) z s' l l' r) f (subst (λ (u : Token). Spoke (k u) s₁ s' l l' r) e x) in
       let t₀ = head s.tokens in
       record {
@@ -64,9 +60,9 @@ module _ {A : Type 0} {s s' : Scene} {l l' : Held Report} {r : Result A Fatal} w
         reports = subst (λ (xs : List Report). Noted l l' xs) (sym (ap (λ z. cond z (gains (k t₀) (past_one s)) (gains (j t₀) s)) b)) y.reports;
       }
 
-  pub eat_no : (p : ℕ → Bool) (k j : Token → Dialogue A) {t : Token} → t ≡ head s.tokens → p t.kind ≡ false → Spoke (j t) s s' l l' r → Spoke (eat p k j) s s' l l' r
+  pub eat_no : (p : ℕ → Bool) (k j : Token → Dialogue A) {t : Token} → t ≡ head s.tokens → p t.kind.code ≡ false → Spoke (j t) s s' l l' r → Spoke (eat p k j) s s' l l' r
   eat_no p k j {t} e h x =
-      let b : p (head s.tokens).kind ≡ false = sym (ap (λ (u : Token). p u.kind) e) ∙ h in
+      let b : p (head s.tokens).kind.code ≡ false = sym (ap (λ (u : Token). p u.kind.code) e) ∙ h in
       let y : Spoke (j (head s.tokens)) s s' l l' r = subst (λ (u : Token). Spoke (j u) s s' l l' r) e x in
       let t₀ = head s.tokens in
       record {
@@ -111,9 +107,3 @@ module _ {A : Type 0} {s s' : Scene} {l l' : Held Report} {r : Result A Fatal} w
 
   pub test_false : (b : Bool) (d e : Dialogue A) → b ≡ false → Spoke e s s' l l' r → Spoke (test b d e) s s' l l' r
   test_false b d e p x = rw p (record { value = x.value; means = x.means; reports = x.reports })
-
-pub same_as : {A : Type 0} {x : A} → x ≡ x
-same_as = refl
-
--- every step, for the search
-pub ruleset spoken = (same_as, done_spoke, stop_spoke, note_spoke, look_spoke, peek_spoke, last_spoke, eat_yes, eat_no, check_spoke, part_spoke, method_spoke, index_spoke, test_true, test_false, semicolons_spoke, keywords_spoke)

@@ -23,7 +23,7 @@ use Rattle.dialogue.specs.declared.Fatal.{Fatal}
 -- how many semicolons stand first
 abbrev pub semicolons : List Token → ℕ
 semicolons [] = 0
-semicolons (t ∷ ts) = cond (t.kind == k_semicolon) (1 + semicolons ts) 0
+semicolons (t ∷ ts) = cond (t.kind.code == k_semicolon) (1 + semicolons ts) 0
 
 pub data Dialogue (A : Type 0) : Type 0 where
   -- ends with a value
@@ -61,7 +61,7 @@ outcome (note rs d) s = outcome d s
 outcome (look k) s = outcome (k (head s.tokens)) s
 outcome (peek k) s = outcome (k (head (next s.tokens))) s
 outcome (last k) s = outcome (k s.last) s
-outcome (eat p k l) s = cond (p (head s.tokens).kind) (outcome (k (head s.tokens)) (past_one s)) (outcome (l (head s.tokens)) s)
+outcome (eat p k l) s = cond (p (head s.tokens).kind.code) (outcome (k (head s.tokens)) (past_one s)) (outcome (l (head s.tokens)) s)
 outcome (take_semicolons d) s = outcome d (past (semicolons s.tokens) s)
 outcome (take_keywords t k) s = outcome (k (lasts (kept_of t s))) (past (length (kept_of t s)) s)
 outcome (check c ms d) s = outcome d s
@@ -78,7 +78,7 @@ after (note rs d) s = after d s
 after (look k) s = after (k (head s.tokens)) s
 after (peek k) s = after (k (head (next s.tokens))) s
 after (last k) s = after (k s.last) s
-after (eat p k l) s = cond (p (head s.tokens).kind) (after (k (head s.tokens)) (past_one s)) (after (l (head s.tokens)) s)
+after (eat p k l) s = cond (p (head s.tokens).kind.code) (after (k (head s.tokens)) (past_one s)) (after (l (head s.tokens)) s)
 after (take_semicolons d) s = after d (past (semicolons s.tokens) s)
 after (take_keywords t k) s = after (k (lasts (kept_of t s))) (past (length (kept_of t s)) s)
 after (check c ms d) s = after d s
@@ -95,7 +95,7 @@ gains (note rs d) s = rs ++ gains d s
 gains (look k) s = gains (k (head s.tokens)) s
 gains (peek k) s = gains (k (head (next s.tokens))) s
 gains (last k) s = gains (k s.last) s
-gains (eat p k l) s = cond (p (head s.tokens).kind) (gains (k (head s.tokens)) (past_one s)) (gains (l (head s.tokens)) s)
+gains (eat p k l) s = cond (p (head s.tokens).kind.code) (gains (k (head s.tokens)) (past_one s)) (gains (l (head s.tokens)) s)
 gains (take_semicolons d) s = gains d (past (semicolons s.tokens) s)
 gains (take_keywords t k) s = order_reports [] (kept_of t s) ++ gains (k (lasts (kept_of t s))) (past (length (kept_of t s)) s)
 gains (check c ms d) s = check_reports c ms ++ gains d s

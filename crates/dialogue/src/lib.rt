@@ -7,9 +7,9 @@ ghost use Rattle.std.specs.Prelude.{◌≡◌};
 ghost use Rattle.dialogue.specs.Fatal.{fatal_number};
 
 /// A rule that ends the member and faults the session.
-#[derive(Clone, Copy)]
+#[derive(Clone, Copy, Debug, PartialEq, Eq)]
 pub enum Fatal {
-    ExpectToken,
+    ExpectToken = 49,
     AutoSemicolonInsertion,
     Unexpected,
     TooManyDecorators,
@@ -19,11 +19,6 @@ impl Fatal {
     pub fn number(self) -> u8
         ensures { result ≡ fatal_number self }
     {
-        match self {
-            Fatal::ExpectToken => 49,
-            Fatal::AutoSemicolonInsertion => 50,
-            Fatal::Unexpected => 51,
-            Fatal::TooManyDecorators => 52,
-        }
+        self as u8
     }
 }

@@ -3,29 +3,61 @@
 
 #![tactic(auto)]
 
+ghost use Rattle.std.specs.Prelude.{◌≡◌, Some};
+ghost use Rattle.gate.specs.Lines.{line};
 ghost use Rattle.gate.specs.Verdicts.{Judged};
 ghost use Rattle.refusal.specs.Questions.{number_of};
 ghost use Rattle.session.specs.Boards.{member_board, report_board};
 ghost use Rattle.session.specs.Worlds.{standing_says};
 
 use brackets::Brackets;
+use dialogue::Fatal;
 use kinds::context::Context;
 use laws::read_body;
 use list::list::List;
 use reader::TokenReader;
 use records::MemberRecord;
 use refusal::{Opened, Refusal};
-use reports::Report;
+use reports::{OrDash, Report};
 use script::ScriptReader;
 use session::state::{Language, Session, Standing};
+use std::fmt;
 use text::Text;
 use trivia::Trivia;
 
-/// How the session stands in the end, and why the body is refused, if it is.
-#[derive(Clone, Copy)]
+/// How the session stands in the end, and why the body is refused, if it is. The standing is told in both cases, so this
+/// is no `Result`.
+#[derive(Clone, Copy, Debug, PartialEq, Eq)]
 pub struct Verdict {
     pub standing: Standing,
     pub refusal: Option<Refusal>,
+}
+
+/// One line, without its end: `= kept missed members fatal refusal`, `-` for none.
+impl fmt::Display for Verdict {
+    ghost output = { λ v. Some (line v) };
+
+    fn fmt<W: fmt::Write>(&self, f: &mut fmt::Formatter<W>) -> fmt::Result {
+        let Standing {
+            state,
+            members,
+            kept,
+            missed,
+        } = self.standing;
+        let fatal = unless_0(state.fatal().map_or(0, Fatal::number));
+        let refusal = unless_0(self.refusal.map_or(0, Refusal::number));
+        write!(f, "= {kept} {missed} {members} {fatal} {refusal}")
+    }
+}
+
+// No rule and no refusal has the number 0.
+fn unless_0(number: u8) -> OrDash
+    ensures { result ≡ record { number = number; none = 0 } }
+{
+    OrDash {
+        number: u16::from(number),
+        none: 0,
+    }
 }
 
 /// Judges a class body, in TypeScript and with an empty context. Reports and member records are noted in the lists.
@@ -46,7 +78,7 @@ pub fn judge(
     }
     let tokens = Trivia::new(reader);
     let mut script = Brackets::new(tokens);
-    let refusal = read_body(&mut session, &mut script, reports, members);
+    let refusal = read_body(&mut session, &mut script, reports, members).err();
     Verdict {
         standing: session.standing(reports, members),
         refusal,

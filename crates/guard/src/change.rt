@@ -4,7 +4,7 @@ ghost use Rattle.guard.specs.Changes.{changed_bits};
 use kinds::context::{Context, ContextFlag};
 
 /// What the context of a part is, against that of the class around it.
-#[derive(Clone, Copy)]
+#[derive(Clone, Copy, Debug, PartialEq, Eq)]
 pub enum Change {
     /// The expression of a computed name: `in` is an operator again.
     ComputedName,

@@ -1,31 +1,13 @@
 -- A list of keywords cut at a place, and each kind once.
-use Rattle.std.proofs.Common.{◌≡◌, suc, ◌<◌, Bool, true, false, ◌||◌, List, [], ◌∷◌, ◌++◌, length, take, drop, refl, ap, ◌∙◌, arith}
+use Rattle.std.proofs.Common.{◌≡◌, suc, Bool, true, false, ◌||◌, List, [], ◌∷◌, ◌++◌, length, refl, ap, ◌∙◌, arith, length-append}
 use Rattle.kinds.specs.declared.modifier_kind.ModifierKind.{ModifierKind}
 use Rattle.modifiers.proofs.Kept.{keeps_added}
 use Rattle.modifiers.specs.Entries.{added, keeps, same_kind}
 use Rattle.modifiers.specs.declared.modifier.Modifier.{Modifier}
-use Rattle.keywords.specs.Laws.{keyword_at}
 use Rattle.keywords.specs.Run.{lasts, lasts_from}
 
-pub take_front : (pre rest : List Modifier) → take (length pre) (pre ++ rest) ≡ pre
-take_front [] rest = refl
-take_front (p ∷ ps) rest = ap (λ l. p ∷ l) (take_front ps rest)
-
-pub at_front : (pre : List Modifier) (m : Modifier) (rest : List Modifier) → keyword_at (pre ++ (m ∷ rest)) (length pre) ≡ m
-at_front [] m rest = refl
-at_front (p ∷ ps) m rest = at_front ps m rest
-
-pub drop_front : (pre : List Modifier) (m : Modifier) (rest : List Modifier) → drop (suc (length pre)) (pre ++ (m ∷ rest)) ≡ rest
-drop_front [] m rest = refl
-drop_front (p ∷ ps) m rest = drop_front ps m rest
-
-pub length_here : (pre : List Modifier) (m : Modifier) (rest : List Modifier) → length pre < length (pre ++ (m ∷ rest))
-length_here [] m rest = omega arith
-length_here (p ∷ ps) m rest = let h = length_here ps m rest in omega arith
-
 pub length_push : (pre : List Modifier) (m : Modifier) → length (pre ++ (m ∷ [])) ≡ suc (length pre)
-length_push [] m = refl
-length_push (p ∷ ps) m = ap suc (length_push ps m)
+length_push pre m = omega (arith, length-append pre (m ∷ []))
 
 pub lasts_push : (ms ks : List Modifier) (k : Modifier) → lasts_from ms (ks ++ (k ∷ [])) ≡ added (lasts_from ms ks) k
 lasts_push ms [] k = refl

@@ -1,19 +1,24 @@
 -- What the order of keywords earns: one report for each that is misplaced.
-use Rattle.std.proofs.Common.{◌≡◌, ℕ, suc, ◌<◌, Bool, true, false, ◌&&◌, List, [], ◌∷◌, ◌++◌, length, take, Some, None, Option, sym, refl, ap, ◌∙◌, subst, ⊎_elim, append_assoc, append-nil, arith}
+use Rattle.std.proofs.Common.{◌≡◌, ℕ, suc, ◌<◌, Bool, true, false, ◌&&◌, List, [], ◌∷◌, ◌++◌, length, take, Some, None, Option, sym, refl, ap, ◌∙◌, subst, ⊎_elim, append_assoc, append-nil, arith, length-append}
+use Rattle.std.proofs.Math.Seq.{get_or-append_seam, take-append_seam}
 use Rattle.std.proofs.lemmas.Bool.{and_from, and_parts, both_ways, cases_Bool}
 use Rattle.kinds.specs.Modifiers.{modifier_number}
 use Rattle.kinds.specs.declared.modifier_kind.ModifierKind.{ModifierKind}
-use Rattle.modifiers.specs.Entries.{added, end_of, keeps}
+use Rattle.kinds.specs.declared.modifier_kind.ModifierKind.TheVariants.{Declare}
+use Rattle.modifiers.specs.Entries.{added, end_of, keeps, word_at}
 use Rattle.modifiers.specs.declared.modifier.Modifier.{Modifier}
 use Rattle.reports.proofs.Places.{OneFrom, from_all, from_end, from_skip, from_take}
 use Rattle.reports.specs.Reports.{keyword_report, kind_or_255}
 use Rattle.reports.specs.declared.Report.{Report}
+use Rattle.rules.specs.Rules.{rule_number}
+use Rattle.rules.specs.declared.Rule.TheVariants.{AccessibilityAlreadySeen, AlreadySeen}
 use Rattle.verdicts.proofs.Ordered.{order_alike, order_rules}
-use Rattle.verdicts.proofs.Pairs.{any_from, any_some, numbers}
+use Rattle.kinds.proofs.Numbered.{numbers}
+use Rattle.verdicts.proofs.Pairs.{any_from, any_some}
 use Rattle.verdicts.specs.Orders.{NoneForbidden, OrderRules, naming, order_of, silent}
-use Rattle.verdicts.specs.Verdicts.{any_of, every_kind, forbids, verdict_of}
+use Rattle.verdicts.specs.Verdicts.{any_of, every_kind, forbids}
 use Rattle.verdicts.specs.declared.order.OrderVerdict.{OrderVerdict}
-use Rattle.keywords.proofs.Cuts.{at_front, keeps_lasts, lasts_push, length_here, length_push, take_front}
+use Rattle.keywords.proofs.Cuts.{keeps_lasts, lasts_push, length_push}
 use Rattle.keywords.specs.Laws.{Misplaced, OrderEarned, Prescribed, kept_before, keyword_at, kind_at}
 use Rattle.keywords.specs.Run.{lasts, order_reports, place_of, reports_of}
 
@@ -32,8 +37,8 @@ module _ (kept : ModifierKind → Bool) (later : ModifierKind) where
       ⊎_elim (λ f. absurd (both_ways (any_of offends every_kind) h (any_from offends every_kind k (numbers k).2 (and_from (kept k) (forbids later k) a f)))) (λ f. f)
       (cases_Bool (forbids later k))
 
-told : (v w : OrderVerdict) → Some v ≡ Some w → (v.rule ≡ w.rule) × (kind_or_255 v.other ≡ kind_or_255 w.other)
-told v w e = let q : v ≡ w = cc in (ap (λ x. x.rule) q, ap (λ x. kind_or_255 x.other) q)
+told : (v w : OrderVerdict) → Some v ≡ Some w → (rule_number v.rule ≡ rule_number w.rule) × (kind_or_255 v.other ≡ kind_or_255 w.other)
+told v w e = let q : v ≡ w = cc in (ap (λ x. rule_number x.rule) q, ap (λ x. kind_or_255 x.other) q)
 
 -- the report of one misplaced keyword
 module _ (kept : List Modifier) (i : ℕ) (m : Modifier) (here : keyword_at kept i ≡ m) where
@@ -41,7 +46,7 @@ module _ (kept : List Modifier) (i : ℕ) (m : Modifier) (here : keyword_at kept
   says = order_of (kept_before kept i) m.kind
 
   abbrev report_of : OrderVerdict → Report
-  report_of v = keyword_report v.rule m.kind (place_of m) v.other None
+  report_of v = keyword_report (rule_number v.rule) m.kind (place_of m) v.other None
 
   prescribed : (v : OrderVerdict) → says ≡ Some v → Prescribed kept i (report_of v)
   prescribed v e =
@@ -52,9 +57,11 @@ module _ (kept : List Modifier) (i : ℕ) (m : Modifier) (here : keyword_at kept
         end = sym (ap end_of here);
         kind = sym (ap (λ x. modifier_number x.kind) here);
         allowed = refl;
-        second = λ g. told v (silent 1) (sym said ∙ o.second g);
-        again = λ g. told v (silent 2) (sym said ∙ o.again g);
-        lowest = λ k l f g. told v (naming (verdict_of (kind_at kept i) k) k) (sym said ∙ o.lowest k l f g);
+        second = λ g. told v (silent AccessibilityAlreadySeen) (sym said ∙ o.second g);
+        again = λ g. told v (silent AlreadySeen) (sym said ∙ o.again g);
+        lowest = λ k l f g.
+            let x = o.lowest k l f g in
+            let t = told v (naming x.0 k) (sym said ∙ x.2) in (t.0 ∙ x.1, t.1);
       }
 
 orders_from : (kept pre rest : List Modifier) → kept ≡ pre ++ rest → OneFrom (Misplaced kept) (Prescribed kept) (length pre) (length kept) (order_reports (lasts pre) rest)
@@ -67,17 +74,17 @@ orders_from kept pre (m ∷ ms) e =
     (rw (length_push pre m, lasts_push [] pre m) at (orders_from kept (pre ++ (m ∷ [])) ms (e ∙ sym (append_assoc pre (m ∷ []) ms)))))
   where
     here : keyword_at kept (length pre) ≡ m
-    here = ap (λ l. keyword_at l (length pre)) e ∙ at_front pre m ms
+    here = ap (λ l. keyword_at l (length pre)) e ∙ get_or-append_seam pre m ms (word_at Declare 0)
 
     lt : length pre < length kept
-    lt = rw e (length_here pre m ms)
+    lt = rw e (omega (arith, length-append pre (m ∷ ms)))
 
     before : ModifierKind → Bool
     before = kept_before kept (length pre)
 
     -- the kinds kept before are those of the list with each kind once
     alike : order_of (λ k. keeps k (lasts pre)) m.kind ≡ order_of before m.kind
-    alike = order_alike (λ k. keeps k (lasts pre)) before (λ k. keeps_lasts k pre ∙ sym (ap (keeps k) (ap (take (length pre)) e ∙ take_front pre (m ∷ ms)))) m.kind
+    alike = order_alike (λ k. keeps k (lasts pre)) before (λ k. keeps_lasts k pre ∙ sym (ap (keeps k) (ap (take (length pre)) e ∙ take-append_seam pre (m ∷ ms)))) m.kind
 
     found : (v : OrderVerdict) → order_of before m.kind ≡ Some v → Misplaced kept (length pre)
     found v f =

@@ -1,12 +1,12 @@
 -- The kept keywords are the longest run at the beginning of sound tokens.
-use Rattle.std.proofs.Common.{◌≡◌, ℕ, zero, suc, ◌+◌, ◌^◌, ◌<◌, ◌≤◌, Bool, true, false, cond, ◌&&◌, ltb, List, [], ◌∷◌, ◌++◌, length, take, Some, None, Option, sym, refl, ap, ◌∙◌, subst, append_assoc, append-nil, arith}
-use Rattle.std.proofs.lemmas.Bool.{and_from, and_parts, both_ways, eqb-true, lt-ltb, ltb-true}
+use Rattle.std.proofs.Common.{◌≡◌, ℕ, zero, suc, ◌+◌, ◌^◌, ◌<◌, Bool, true, false, cond, ◌&&◌, List, [], ◌∷◌, ◌++◌, length, take, Some, None, Option, sym, refl, ap, ◌∙◌, subst, append_assoc, append-nil, arith}
+use Rattle.std.proofs.lemmas.Bool.{both_ways, eqb-true, lt-ltb}
 use Rattle.std.proofs.lemmas.Bool.Decides.{nat_tests}
 use Rattle.kinds.specs.Modifiers.{word_of}
 use Rattle.kinds.specs.declared.modifier_kind.ModifierKind.{ModifierKind}
 use Rattle.kinds.specs.declared.modifier_kind.ModifierKind.TheVariants.{Static}
-use Rattle.modifiers.proofs.Kept.{all_left, all_one_more}
-use Rattle.modifiers.specs.Entries.{above, added, end_of, fits, keeps, may_follow, without, word_at}
+use Rattle.modifiers.proofs.Laws.{above_added, above_more}
+use Rattle.modifiers.specs.Entries.{above, added, end_of, fits, keeps, may_follow, word_at}
 use Rattle.modifiers.specs.declared.modifier.Modifier.{Modifier}
 use Rattle.reader.proofs.Closing.{First, next_sound, sound_current}
 use Rattle.reader.specs.Sound.{sound, spelled}
@@ -19,32 +19,22 @@ use Rattle.keywords.specs.Run.{eligible, kept_from, keyword_if, lasts}
 use Rattle.keywords.specs.declared.ListSettings.{ListSettings}
 
 -- a keyword is not Eof, so that the token after it is the next one of the list
-not_eof : (t : Token) (k : ModifierKind) → modifier_of t.kind ≡ Some k → is_eof t ≡ false
+not_eof : (t : Token) (k : ModifierKind) → modifier_of t.kind.code ≡ Some k → is_eof t ≡ false
 not_eof t k e = by (is_eof t) refl
   where
     by : (b : Bool) → is_eof t ≡ b → b ≡ false
     by true f =
-        let z : t.kind ≡ 0 = grind (arith, nat_tests) in
-        let n : modifier_of t.kind ≡ None = ap modifier_of z in
+        let z : t.kind.code ≡ 0 = grind (arith, nat_tests) in
+        let n : modifier_of t.kind.code ≡ None = ap modifier_of z in
         let y : ◌≡◌ {A = ℕ} 0 1 = cc in absurd (omega arith)
     by false f = refl
 
 next_plain : (t : Token) (ts : List Token) → is_eof t ≡ false → next (t ∷ ts) ≡ ts
 next_plain t ts h = rw h
 
--- what is below a start is below a later one
-above_more : (a b : ℕ) (ms : List Modifier) → a ≤ b → above a ms ≡ true → above b ms ≡ true
-above_more a b [] l h = refl
-above_more a b (m ∷ ms) l h =
-    let p = and_parts (ltb m.start a) (above a ms) h in
-    let q = ltb-true m.start a p.0 in
-    and_from (ltb m.start b) (above b ms) (lt-ltb m.start b (omega arith)) (above_more a b ms l p.1)
-
--- of a keyword and those before it the next token is past the start
-above_added : (ms : List Modifier) (m : Modifier) (b : ℕ) → above m.start ms ≡ true → m.start < b → above b (added ms m) ≡ true
-above_added ms m b h l =
-    all_one_more (λ x. ltb x.start b) (without m.kind ms) m (all_left (λ x. ltb x.start b) m.kind ms (above_more m.start b ms (omega arith) h))
-    (lt-ltb m.start b l)
+-- the start of the next token is above those of a keyword and of those before it
+next_above : (ms : List Modifier) (m : Modifier) (b : ℕ) → above m.start ms ≡ true → m.start < b → above b (added ms m) ≡ true
+next_above ms m b h l = above_added b ms m (above_more m.start b ms h (omega arith)) l
 
 -- what is to be shown of the tokens after some keywords
 record RunAfter (s : ListSettings) (before : List Modifier) (ts : List Token) (kept : List Modifier) : Type 0 where
@@ -62,7 +52,7 @@ run_none s before ts h =
     }
 
 -- one keyword is, and then others
-run_more : (s : ListSettings) (before : List Modifier) (t : Token) (ts : List Token) (k : ModifierKind) (kept : List Modifier) → next (t ∷ ts) ≡ ts → modifier_of t.kind ≡ Some k → eligible s (keeps Static before) k (head ts) ≡ true → RunAfter s (before ++ (word_at k t.start ∷ [])) ts kept → RunAfter s before (t ∷ ts) (word_at k t.start ∷ kept)
+run_more : (s : ListSettings) (before : List Modifier) (t : Token) (ts : List Token) (k : ModifierKind) (kept : List Modifier) → next (t ∷ ts) ≡ ts → modifier_of t.kind.code ≡ Some k → eligible s (keeps Static before) k (head ts) ≡ true → RunAfter s (before ++ (word_at k t.start ∷ [])) ts kept → RunAfter s before (t ∷ ts) (word_at k t.start ∷ kept)
 run_more s before t ts k kept plain is fit x =
     record {
       modifiers = each;
@@ -73,14 +63,14 @@ run_more s before t ts k kept plain is fit x =
     moved : (j : ModifierKind) (ms ms' : List Modifier) (i : ℕ) → ms' ≡ ms → IsModifier s (t ∷ ts) ms (suc i) j → IsModifier s ts ms' i j
     moved j ms ms' i e y =
         record {
-          keyword = ap (λ us. modifier_of (token_at us i).kind) (sym plain) ∙ y.keyword;
+          keyword = ap (λ us. modifier_of (token_at us i).kind.code) (sym plain) ∙ y.keyword;
           fit = ap (λ l. eligible s (keeps Static l) j (token_at ts (suc i))) e ∙ ap (λ us. eligible s (keeps Static ms) j (token_at us (suc i))) (sym plain) ∙ y.fit;
         }
 
     back : (j : ModifierKind) (ms ms' : List Modifier) (i : ℕ) → ms' ≡ ms → IsModifier s ts ms' i j → IsModifier s (t ∷ ts) ms (suc i) j
     back j ms ms' i e y =
         record {
-          keyword = ap (λ us. modifier_of (token_at us i).kind) plain ∙ y.keyword;
+          keyword = ap (λ us. modifier_of (token_at us i).kind.code) plain ∙ y.keyword;
           fit = ap (λ us. eligible s (keeps Static ms) j (token_at us (suc i))) plain ∙ sym (ap (λ l. eligible s (keeps Static l) j (token_at ts (suc i))) e) ∙ y.fit;
         }
 
@@ -98,7 +88,7 @@ run_more s before t ts k kept plain is fit x =
 
 run_after : (s : ListSettings) (before : List Modifier) (ts : List Token) → sound ts ≡ true → above (head ts).start (lasts before) ≡ true → RunAfter s before ts (kept_from s (lasts before) ts)
 run_after s before [] h a = run_none s before [] (λ k x. let z : ◌≡◌ {A = ℕ} 0 1 = cc in absurd (omega arith))
-run_after s before (t ∷ ts) h a = by (modifier_of t.kind) refl (λ k. run_after s (before ++ (word_at k t.start ∷ [])) ts)
+run_after s before (t ∷ ts) h a = by (modifier_of t.kind.code) refl (λ k. run_after s (before ++ (word_at k t.start ∷ [])) ts)
   where
     From : Option Modifier → Type 0
     From o = RunAfter s before (t ∷ ts) (elim o [ None ↦ [] | Some m ↦ m ∷ kept_from s (added (lasts before) m) ts ])
@@ -106,7 +96,7 @@ run_after s before (t ∷ ts) h a = by (modifier_of t.kind) refl (λ k. run_afte
     More : ModifierKind → Type 0
     More k = sound ts ≡ true → above (head ts).start (lasts (before ++ (word_at k t.start ∷ []))) ≡ true → RunAfter s (before ++ (word_at k t.start ∷ [])) ts (kept_from s (lasts (before ++ (word_at k t.start ∷ []))) ts)
 
-    by : (o : Option ModifierKind) → modifier_of t.kind ≡ o → ((k : ModifierKind) → More k) → From (keyword_if s (lasts before) o t (head ts))
+    by : (o : Option ModifierKind) → modifier_of t.kind.code ≡ o → ((k : ModifierKind) → More k) → From (keyword_if s (lasts before) o t (head ts))
     by None e more = run_none s before (t ∷ ts) (λ k x. let y = x.keyword in let z : ◌≡◌ {A = ℕ} 0 1 = cc in absurd (omega arith))
     by (Some k) e more = is (eligible s (keeps Static (lasts before)) k (head ts)) refl (fits (word_at k t.start)) refl
       where
@@ -137,10 +127,10 @@ run_after s before (t ∷ ts) h a = by (modifier_of t.kind) refl (λ k. run_afte
             (run_more s before t ts k (kept_from s (added (lasts before) (word_at k t.start)) ts) plain e (fit_here ∙ f)
             (subst (λ (ms : List Modifier). RunAfter s (before ++ (word_at k t.start ∷ [])) ts (kept_from s ms ts)) (lasts_push [] before (word_at k t.start))
             (more k first.rest
-            (rw (lasts_push [] before (word_at k t.start)) (above_added (lasts before) (word_at k t.start) (head ts).start a (let l = first.some in let m = first.within in omega arith))))))
+            (rw (lasts_push [] before (word_at k t.start)) (next_above (lasts before) (word_at k t.start) (head ts).start a (let l = first.some in let m = first.within in omega arith))))))
 
 -- a keyword of sound tokens ends where its token does
-spelled_end : (t : Token) (k : ModifierKind) → modifier_of t.kind ≡ Some k → spelled (modifier_of t.kind) t ≡ true → t.end ≡ end_of (word_at k t.start)
+spelled_end : (t : Token) (k : ModifierKind) → modifier_of t.kind.code ≡ Some k → spelled (modifier_of t.kind.code) t ≡ true → t.end ≡ end_of (word_at k t.start)
 spelled_end t k e h = eqb-true t.end (t.start + length (word_of k)) (sym (ap (λ o. spelled o t) e) ∙ h)
 
 ahead_sound : (n : ℕ) (ts : List Token) → sound ts ≡ true → sound (ahead n ts) ≡ true

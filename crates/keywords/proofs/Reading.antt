@@ -1,7 +1,6 @@
 -- A keyword list, one keyword at a time.
 use Rattle.std.proofs.Common.{◌≡◌, ℕ, zero, suc, ◌^◌, ◌<◌, Bool, true, false, cond, List, [], ◌∷◌, ◌++◌, length, Some, None, Option, sym, refl, ap, ◌∙◌, subst, ap₂, append_assoc, append-nil, arith}
 use Rattle.std.proofs.lemmas.Bool.Decides.{nat_tests}
-use Rattle.kinds.specs.Modifiers.{modifier_number}
 use Rattle.kinds.specs.declared.modifier_kind.ModifierKind.{ModifierKind}
 use Rattle.kinds.specs.declared.modifier_kind.ModifierKind.TheVariants.{Static}
 use Rattle.keywords.proofs.Cuts.{lasts_push, length_push}
@@ -21,14 +20,8 @@ use Rattle.reader.specs.Scenes.{Scene, past, past_one}
 use Rattle.reader.specs.Sound.{sound}
 use Rattle.reader.specs.Tokens.{ahead, head, is_eof, last_after, last_end, next}
 use Rattle.reports.specs.declared.Report.{Report}
-use Rattle.small_set.specs.Members.{member}
 use Rattle.token.specs.Kinds.{modifier_of}
 use Rattle.token.specs.declared.Token.{Token}
-use Rattle.verdicts.specs.Orders.{order_of}
-
--- the set of the kept kinds says as much as the list
-pub same_order : (bits : ℕ) (ms : List Modifier) (k : ModifierKind) → ((j : ModifierKind) → member bits (modifier_number j) ≡ keeps j ms) → order_of (λ j. member bits (modifier_number j)) k ≡ order_of (λ j. keeps j ms) k
-same_order bits ms k h i = order_of (λ j. h j i) k
 
 orders_push : (ms ks : List Modifier) (k : Modifier) → order_reports ms (ks ++ (k ∷ [])) ≡ order_reports ms ks ++ order_report (lasts_from ms ks) k
 orders_push ms [] k = append-nil (order_report ms k)
@@ -68,7 +61,7 @@ here_next : (t : ListSettings) (ms : List Modifier) (x : Token) (ts : List Token
 here_next t ms x ts = by (is_eof x) refl
   where
     by : (b : Bool) → is_eof x ≡ b → keyword_here t ms x (head (cond b (x ∷ ts) ts)) ≡ keyword_here t ms x (head ts)
-    by true e = let z : x.kind ≡ 0 = grind (arith, nat_tests) in let n : modifier_of x.kind ≡ None = ap modifier_of z in rw n
+    by true e = let z : x.kind.code ≡ 0 = grind (arith, nat_tests) in let n : modifier_of x.kind.code ≡ None = ap modifier_of z in rw n
     by false e = refl
 
 -- the list ends where no keyword is, and goes on where one is
@@ -89,8 +82,8 @@ kept_some t ms (x ∷ ts) m h = by (is_eof x) refl
 
     by : (b : Bool) → is_eof x ≡ b → kept_from t ms (x ∷ ts) ≡ m ∷ kept_from t (added ms m) (cond b (x ∷ ts) ts)
     by true f =
-        let z : x.kind ≡ 0 = grind (arith, nat_tests) in
-        let n : modifier_of x.kind ≡ None = ap modifier_of z in
+        let z : x.kind.code ≡ 0 = grind (arith, nat_tests) in
+        let n : modifier_of x.kind.code ≡ None = ap modifier_of z in
         let o : keyword_here t ms x (head ts) ≡ None = ap (λ k. keyword_if t ms k x (head ts)) n in
         none_not_some (sym o ∙ e)
     by false f = ap (λ o. elim o [ None ↦ [] | Some m ↦ m ∷ kept_from t (added ms m) ts ]) e
@@ -122,12 +115,12 @@ end_is true x y e = cc
 end_is false x y e = let z : ◌≡◌ {A = ℕ} 0 1 = cc in absurd (omega arith)
 
 -- no keyword at all
-pub no_keyword : (t : ListSettings) (ms : List Modifier) (ts : List Token) {x : Token} → x ≡ head ts → None ≡ modifier_of x.kind → keyword_here t ms (head ts) (head (next ts)) ≡ None
+pub no_keyword : (t : ListSettings) (ms : List Modifier) (ts : List Token) {x : Token} → x ≡ head ts → None ≡ modifier_of x.kind.code → keyword_here t ms (head ts) (head (next ts)) ≡ None
 no_keyword t ms ts {x} cur none =
-    ap (λ o. keyword_if t ms o (head ts) (head (next ts))) (sym (none ∙ ap (λ (y : Token). modifier_of y.kind) cur))
+    ap (λ o. keyword_if t ms o (head ts) (head (next ts))) (sym (none ∙ ap (λ (y : Token). modifier_of y.kind.code) cur))
 
 -- what the reader gives is what the list has
-module _ (t : ListSettings) (ms : List Modifier) (ts : List Token) {x n : Token} {k : ModifierKind} {b : Bool} (cur : x ≡ head ts) (peek : n ≡ head (next ts)) (is : Some k ≡ modifier_of x.kind) (kept : b ≡ keeps Static ms) where
+module _ (t : ListSettings) (ms : List Modifier) (ts : List Token) {x n : Token} {k : ModifierKind} {b : Bool} (cur : x ≡ head ts) (peek : n ≡ head (next ts)) (is : Some k ≡ modifier_of x.kind.code) (kept : b ≡ keeps Static ms) where
   here_at : (o : Option Modifier) → cond (eligible t b k n) (cond (may_follow ms (word_at k x.start)) (Some (word_at k x.start)) None) None ≡ o → keyword_here t ms (head ts) (head (next ts)) ≡ o
   here_at o h =
       sym (ap₂ (keyword_here t ms) cur peek) ∙ sym (ap (λ j. keyword_if t ms j x n) is)
@@ -144,9 +137,9 @@ module _ (t : ListSettings) (ms : List Modifier) (ts : List Token) {x n : Token}
   here e f = here_at (Some (word_at k x.start)) (rw (← e, ← f))
 
   -- a keyword is not Eof
-  pub is_more : (head ts).kind ≡ 0 → ⊥
+  pub is_more : (head ts).kind.code ≡ 0 → ⊥
   is_more z =
-      let p : Some k ≡ None = is ∙ ap (λ (y : Token). modifier_of y.kind) cur ∙ ap modifier_of z in
+      let p : Some k ≡ None = is ∙ ap (λ (y : Token). modifier_of y.kind.code) cur ∙ ap modifier_of z in
       let y : ◌≡◌ {A = ℕ} 0 1 = cc in omega arith
 
 -- what a list comes to

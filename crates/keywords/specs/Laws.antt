@@ -29,7 +29,7 @@ kind_at kept i = (keyword_at kept i).kind
 
 -- the token at a place is a keyword of this kind, and a modifier after the kept ones
 pub record IsModifier (s : ListSettings) (ts : List Token) (kept : List Modifier) (i : ℕ) (k : ModifierKind) : Type 0 where
-  pub keyword : modifier_of (token_at ts i).kind ≡ Some k
+  pub keyword : modifier_of (token_at ts i).kind.code ≡ Some k
   pub fit : eligible s (keeps Static kept) k (token_at ts (suc i)) ≡ true
 
 -- the longest run of modifiers at the beginning of the tokens: each is one after those before it, and begins where its

@@ -13,6 +13,7 @@ use Rattle.reader.specs.Scenes.{Scene, past}
 use Rattle.reader.specs.Tokens.{head}
 use Rattle.reports.specs.Reports.{keyword_report}
 use Rattle.reports.specs.declared.Report.{Report}
+use Rattle.rules.specs.Rules.{rule_number}
 use Rattle.token.specs.Kinds.{can_follow_modifier, k_lcurly, modifier_of}
 use Rattle.token.specs.declared.Token.{Token}
 use Rattle.verdicts.specs.Orders.{order_of}
@@ -21,14 +22,14 @@ use Rattle.keywords.specs.declared.ListSettings.{ListSettings}
 
 -- whether a token can follow a modifier keyword, and stands on its line
 abbrev pub follows_on_line : Token → Bool
-follows_on_line n = can_follow_modifier n.kind && not n.line_break
+follows_on_line n = can_follow_modifier n.kind.code && not n.line_break
 
 -- whether a keyword is a modifier before the token n: `const` where it is allowed and n follows on its line; `static` if
 -- n can follow, no static is kept and, where static blocks end the list, n is not `{`; any other if n follows on its line
 abbrev pub eligible : ListSettings → Bool → ModifierKind → Token → Bool
 eligible s static_kept k n =
     cond (same_kind k Const) (s.const_allowed && follows_on_line n)
-    (cond (same_kind k Static) (can_follow_modifier n.kind && not static_kept && not (s.static_block_ends && n.kind == k_lcurly))
+    (cond (same_kind k Static) (can_follow_modifier n.kind.code && not static_kept && not (s.static_block_ends && n.kind.code == k_lcurly))
     (follows_on_line n))
 
 -- a keyword that is a modifier after the kept ones; of sound tokens it always begins after them
@@ -39,7 +40,7 @@ keyword_if s ms (Some k) t n =
 
 -- the keyword that a token is there, if any
 abbrev pub keyword_here : ListSettings → List Modifier → Token → Token → Option Modifier
-keyword_here s ms t n = keyword_if s ms (modifier_of t.kind) t n
+keyword_here s ms t n = keyword_if s ms (modifier_of t.kind.code) t n
 
 -- the keywords from a place on, after those that are kept already
 abbrev pub kept_from : ListSettings → List Modifier → List Token → List Modifier
@@ -65,7 +66,7 @@ place_of m = record { start = m.start; end = end_of m }
 -- the report that an order verdict makes of a keyword, if there is one
 abbrev pub reports_of : Option OrderVerdict → Modifier → List Report
 reports_of None m = []
-reports_of (Some v) m = keyword_report v.rule m.kind (place_of m) v.other None ∷ []
+reports_of (Some v) m = keyword_report (rule_number v.rule) m.kind (place_of m) v.other None ∷ []
 
 -- what a keyword earns after the kept ones
 abbrev pub order_report : List Modifier → Modifier → List Report

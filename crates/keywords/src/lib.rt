@@ -18,11 +18,11 @@ use modifiers::{Modifier, Modifiers};
 use parts::Span;
 use reader::{Ahead, TokenReader};
 use reports::Report;
-use token::{Token, kind};
+use token::{Kind, Token};
 use verdicts::order::order_verdict;
 
 /// Whether `const` can be a modifier, and whether `static {` ends the list.
-#[derive(Clone, Copy)]
+#[derive(Clone, Copy, Debug, PartialEq, Eq)]
 pub struct ListSettings {
     pub const_allowed: bool,
     pub static_block_ends: bool,
@@ -31,7 +31,7 @@ pub struct ListSettings {
 fn follows_on_line(next: Token) -> bool
     ensures { result ≡ follows_on_line next }
 {
-    kind::can_follow_modifier(next.kind) && !next.line_break
+    next.kind.can_follow_modifier() && !next.line_break
 }
 
 fn is_eligible(settings: ListSettings, static_kept: bool, kind: ModifierKind, next: Token) -> bool
@@ -40,8 +40,8 @@ fn is_eligible(settings: ListSettings, static_kept: bool, kind: ModifierKind, ne
     match kind {
         ModifierKind::Const => settings.const_allowed && follows_on_line(next),
         ModifierKind::Static => {
-            let block = settings.static_block_ends && next.kind == kind::LCURLY;
-            kind::can_follow_modifier(next.kind) && !static_kept && !block
+            let block = settings.static_block_ends && next.kind == Kind::LCURLY;
+            next.kind.can_follow_modifier() && !static_kept && !block
         }
         _ => follows_on_line(next),
     }
@@ -57,7 +57,8 @@ fn report_order(kept: &Modifiers, kind: ModifierKind, start: u32, reports: &mut 
     let Some(end) = (Modifier { start, kind }).end() else {
         return;
     };
-    reports.push(Report::of_keyword(verdict.rule, kind, Span { start, end }, verdict.other, None));
+    let rule = verdict.rule.number();
+    reports.push(Report::of_keyword(rule, kind, Span { start, end }, verdict.other, None));
 }
 
 /// Takes the keywords at the front, reports what their order earns, and answers those that are kept.
@@ -73,7 +74,7 @@ pub fn parse_modifiers<R: TokenReader>(
     let mut kept = Modifiers::none();
     loop {
         let token = script.current();
-        let Some(kind) = kind::modifier_kind(token.kind) else {
+        let Some(kind) = token.kind.modifier_kind() else {
             return kept;
         };
         let static_kept = kept.contains(ModifierKind::Static);

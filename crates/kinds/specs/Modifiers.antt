@@ -1,5 +1,5 @@
 -- Modifier keywords: their numbers and the words that they are written as.
-use Rattle.std.specs.Prelude.{ℕ, Bool, List, [], ◌∷◌, codes, ◌==◌, slice_index_or}
+use Rattle.std.specs.Prelude.{ℕ, Bool, false, ◌||◌, List, [], ◌∷◌, codes, ◌==◌, slice_index_or}
 use Rattle.kinds.specs.declared.modifier_kind.ModifierKind.{ModifierKind}
 use Rattle.kinds.specs.declared.modifier_kind.ModifierKind.TheVariants.{Declare, Private, Protected, Public, Static, Readonly, Abstract, Override, Async, Const, In, Out, Default, Accessor, Export}
 
@@ -42,6 +42,14 @@ word_of Export = codes "export"
 -- whether two kinds are the same
 abbrev pub same_kind : ModifierKind → ModifierKind → Bool
 same_kind a b = modifier_number a == modifier_number b
+
+-- whether one of some kinds passes a test
+abbrev pub any_of : (ModifierKind → Bool) → List ModifierKind → Bool
+any_of test [] = false
+any_of test (k ∷ ks) = test k || any_of test ks
+
+abbrev pub among : ModifierKind → List ModifierKind → Bool
+among k = any_of (λ x. same_kind x k)
 
 -- every kind, in the order of their numbers
 abbrev pub every_kind : List ModifierKind

@@ -6,7 +6,7 @@ ghost use Rattle.std.proofs.Common.{rules};
 use small_set::SmallKind;
 
 /// A flag of the context that code stands in.
-#[derive(Clone, Copy, PartialEq, Eq)]
+#[derive(Clone, Copy, Debug, PartialEq, Eq)]
 pub enum ContextFlag {
     In = 0,
     Yield,
@@ -18,6 +18,19 @@ pub enum ContextFlag {
     TopLevel,
     NewTarget,
 }
+
+// In the order of their numbers.
+const FLAGS: [ContextFlag; 9] = [
+    ContextFlag::In,
+    ContextFlag::Yield,
+    ContextFlag::Await,
+    ContextFlag::Return,
+    ContextFlag::Decorator,
+    ContextFlag::DisallowConditionalTypes,
+    ContextFlag::Ambient,
+    ContextFlag::TopLevel,
+    ContextFlag::NewTarget,
+];
 
 impl SmallKind for ContextFlag {
     ghost numbered = { flag_number };
@@ -41,23 +54,13 @@ impl SmallKind for ContextFlag {
     }
 
     fn from_number(n: u8) -> Option<ContextFlag> {
-        match n {
-            0 => Some(ContextFlag::In),
-            1 => Some(ContextFlag::Yield),
-            2 => Some(ContextFlag::Await),
-            3 => Some(ContextFlag::Return),
-            4 => Some(ContextFlag::Decorator),
-            5 => Some(ContextFlag::DisallowConditionalTypes),
-            6 => Some(ContextFlag::Ambient),
-            7 => Some(ContextFlag::TopLevel),
-            8 => Some(ContextFlag::NewTarget),
-            _ => None,
-        }
+        FLAGS.get(n as usize).copied()
     }
 }
 
+// A type of its own beside the set of modifiers, so that neither takes the other's kinds.
 /// The flags that are set where some code stands.
-#[derive(Clone, Copy, PartialEq, Eq)]
+#[derive(Clone, Copy, Debug, PartialEq, Eq)]
 pub struct Context {
     bits: u16,
     ghost ok: { bits < 2 ^ 9 },

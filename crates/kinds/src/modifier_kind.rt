@@ -5,7 +5,7 @@ ghost use Rattle.std.proofs.Common.{rules};
 use small_set::SmallKind;
 
 /// A keyword that can stand before a class member or a parameter.
-#[derive(Clone, Copy, PartialEq, Eq)]
+#[derive(Clone, Copy, Debug, PartialEq, Eq)]
 pub enum ModifierKind {
     Declare = 0,
     Private,
@@ -23,6 +23,25 @@ pub enum ModifierKind {
     Accessor,
     Export,
 }
+
+// In the order of their numbers.
+const KINDS: [ModifierKind; 15] = [
+    ModifierKind::Declare,
+    ModifierKind::Private,
+    ModifierKind::Protected,
+    ModifierKind::Public,
+    ModifierKind::Static,
+    ModifierKind::Readonly,
+    ModifierKind::Abstract,
+    ModifierKind::Override,
+    ModifierKind::Async,
+    ModifierKind::Const,
+    ModifierKind::In,
+    ModifierKind::Out,
+    ModifierKind::Default,
+    ModifierKind::Accessor,
+    ModifierKind::Export,
+];
 
 impl SmallKind for ModifierKind {
     ghost numbered = { modifier_number };
@@ -46,24 +65,7 @@ impl SmallKind for ModifierKind {
     }
 
     fn from_number(n: u8) -> Option<ModifierKind> {
-        match n {
-            0 => Some(ModifierKind::Declare),
-            1 => Some(ModifierKind::Private),
-            2 => Some(ModifierKind::Protected),
-            3 => Some(ModifierKind::Public),
-            4 => Some(ModifierKind::Static),
-            5 => Some(ModifierKind::Readonly),
-            6 => Some(ModifierKind::Abstract),
-            7 => Some(ModifierKind::Override),
-            8 => Some(ModifierKind::Async),
-            9 => Some(ModifierKind::Const),
-            10 => Some(ModifierKind::In),
-            11 => Some(ModifierKind::Out),
-            12 => Some(ModifierKind::Default),
-            13 => Some(ModifierKind::Accessor),
-            14 => Some(ModifierKind::Export),
-            _ => None,
-        }
+        KINDS.get(n as usize).copied()
     }
 }
 

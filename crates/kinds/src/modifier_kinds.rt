@@ -5,7 +5,7 @@ ghost use Rattle.small_set.specs.Members.{Lowest, NoneAmong, member, members};
 use crate::modifier_kind::ModifierKind;
 
 /// A set of modifier keywords.
-#[derive(Clone, Copy, PartialEq, Eq)]
+#[derive(Clone, Copy, Debug, PartialEq, Eq)]
 pub struct ModifierKinds {
     bits: u16,
     ghost ok: { bits < 2 ^ 15 },

@@ -1,15 +1,15 @@
 -- Calls in the gate's order, one more in front.
 use Rattle.std.proofs.Common.{◌≡◌, ℕ, List, [], ◌∷◌, ◌++◌, Some, None, Ok, Err, Option, Result, sym, refl, ap, ◌∙◌, subst}
-use Rattle.std.specs.Result.{result_err}
+use Rattle.std.specs.Option.{option_or}
 use Rattle.dialogue.specs.Fatal.{fatal_number}
 use Rattle.dialogue.specs.declared.Fatal.{Fatal}
 use Rattle.laws.proofs.Chains.{happened, ran_push}
-use Rattle.laws.specs.Bodies.{InOrder, ReadFrom, following, or_else, refusal_among}
+use Rattle.laws.specs.Bodies.{InOrder, ReadFrom, following, refusal_among}
 use Rattle.laws.specs.Chains.{Happened, Ran, Step}
 use Rattle.laws.specs.Outcomes.{refused_in, said_by}
-use Rattle.laws.specs.declared.outcome.Outcome.TheVariants.{Done, Read, Refused}
+use Rattle.laws.specs.declared.outcome.Outcome.TheVariants.{Done, Read}
 use Rattle.refusal.specs.Numbers.{refusal_number}
-use Rattle.refusal.specs.Questions.{number_of}
+use Rattle.refusal.specs.Questions.{refused_by}
 use Rattle.refusal.specs.declared.Refusal.{Refusal}
 use Rattle.session.specs.Worlds.{Did, World, carried, done_says, fault, kept_says, member, no_more, refused}
 use Rattle.session.specs.declared.state.Reading.{Reading}
@@ -17,7 +17,7 @@ use Rattle.session.specs.declared.state.Reading.TheVariants.{Fault, Member as Me
 use Rattle.session.specs.declared.state.Call.{Call}
 use Rattle.session.specs.declared.state.Call.TheVariants.{Close, Member, Open}
 
-or_none : (a : Option ℕ) → a ≡ or_else a None
+or_none : (a : Option ℕ) → a ≡ option_or a None
 or_none None = refl
 or_none (Some n) = refl
 
@@ -32,7 +32,7 @@ read_before x e f g s p =
       chain = x ∷ p.chain;
       ran = (refl, s, p.ran);
       order = (e, subst (λ (z : Option Call). InOrder z p.chain None) (sym f) p.order);
-      told = p.told ∙ ap (λ (z : Option ℕ). or_else z (refusal_among p.chain)) (sym g);
+      told = p.told ∙ ap (λ (z : Option ℕ). option_or z (refusal_among p.chain)) (sym g);
     }
 
 -- members that were read, one after the other
@@ -70,25 +70,23 @@ pub as_read : {x y : Reading} {v v' : World} → x ≡ y → Did Member (kept_sa
 as_read {v = v} {v' = v'} e d = subst (λ (z : Reading). Did Member (kept_says z) v v') e d
 
 pub going_on : {w v v' : World} → Going w v → Did Member member v v' → Going w v'
-going_on {w} {v} {v'} p d = going_more (happened v Member (Read MemberRead) v') p refl refl refl d
+going_on {w} {v} {v'} p d = going_more (happened v Member (Ok (Read MemberRead)) v') p refl refl refl d
 
 pub at_fault : {w v w' : World} (f : Fatal) → Going w v → Did Member (fault (fatal_number f)) v w' → ReadFrom Member None w w'
-at_fault {w} {v} {w'} f p d = going_then p (read_last (happened v Member (Read (Fault f)) w') refl refl d)
+at_fault {w} {v} {w'} f p d = going_then p (read_last (happened v Member (Ok (Read (Fault f))) w') refl refl d)
 
 pub at_refusal : {w v w' : World} (r : Refusal) → Going w v → Did Member (refused (refusal_number r)) v w' → ReadFrom Member (Some (refusal_number r)) w w'
-at_refusal {w} {v} {w'} r p d = going_then p (read_last (happened v Member (Refused r) w') refl refl d)
+at_refusal {w} {v} {w'} r p d = going_then p (read_last (happened v Member (Err r) w') refl refl d)
 
-closing : {u w' : World} (o : Result Unit Refusal) → Did Close (done_says o) u w' → ReadFrom Close (number_of (result_err o)) u w'
-closing {u} {w'} (Ok x) d = read_last (happened u Close Done w') refl refl d
-closing {u} {w'} (Err r) d = read_last (happened u Close (Refused r) w') refl refl d
+closing : {u w' : World} (o : Result Unit Refusal) → Did Close (done_says o) u w' → ReadFrom Close (refused_by o) u w'
+closing {u} {w'} (Ok x) d = read_last (happened u Close (Ok Done) w') refl refl d
+closing {u} {w'} (Err r) d = read_last (happened u Close (Err r) w') refl refl d
 
-pub at_end : {w v u w' : World} {e : Option Refusal} (o : Result Unit Refusal) → e ≡ result_err o → Going w v → Did Member no_more v u → Did Close (done_says o) u w' → ReadFrom Member (number_of e) w w'
-at_end {w} {v} {u} {w'} o f p d c =
-    subst (λ (z : Option Refusal). ReadFrom Member (number_of z) w w') (sym f)
-    (going_then p (read_before (happened v Member (Read NoMore) u) refl refl refl d (closing o c)))
+pub at_end : {w v u w' : World} (o : Result Unit Refusal) → Going w v → Did Member no_more v u → Did Close (done_says o) u w' → ReadFrom Member (refused_by o) w w'
+at_end {w} {v} {u} {w'} o p d c = going_then p (read_before (happened v Member (Ok (Read NoMore)) u) refl refl refl d (closing o c))
 
 pub not_opened : {w w' : World} (r : Refusal) → Did Open (refused (refusal_number r)) w w' → ReadFrom Open (Some (refusal_number r)) w w'
-not_opened {w} {w'} r d = read_last (happened w Open (Refused r) w') refl refl d
+not_opened {w} {w'} r d = read_last (happened w Open (Err r) w') refl refl d
 
 pub opened : {w v w' : World} {r : Option ℕ} → Did Open carried w v → ReadFrom Member r v w' → ReadFrom Open r w w'
-opened {w} {v} d p = read_before (happened w Open Done v) refl refl refl d p
+opened {w} {v} d p = read_before (happened w Open (Ok Done) v) refl refl refl d p

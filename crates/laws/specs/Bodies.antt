@@ -1,6 +1,6 @@
 -- A body read whole.
 use Rattle.std.specs.Prelude.{◌≡◌, ℕ, List, [], ◌∷◌, Some, None, Option}
-use Prim.{⊥}
+use Rattle.std.specs.Option.{option_or}
 use Rattle.laws.specs.Chains.{Happened, Ran}
 use Rattle.laws.specs.Outcomes.{refused_in, said_by}
 use Rattle.session.specs.Worlds.{Answer, World, carried, fault, member, no_more, refused, stands}
@@ -30,15 +30,10 @@ InOrder d [] e = d ≡ e
 InOrder None (x ∷ xs) e = ⊥
 InOrder (Some c) (x ∷ xs) e = (x.call ≡ c) × InOrder (following c (said_by x.told)) xs e
 
--- one number, else the other
-abbrev pub or_else : Option ℕ → Option ℕ → Option ℕ
-or_else None b = b
-or_else (Some n) b = Some n
-
 -- the number of the refusal among them, if one was refused (it is the last then: none is due after it)
 abbrev pub refusal_among : List Happened → Option ℕ
 refusal_among [] = None
-refusal_among (x ∷ xs) = or_else (refused_in (said_by x.told)) (refusal_among xs)
+refusal_among (x ∷ xs) = option_or (refused_in (said_by x.told)) (refusal_among xs)
 
 -- from a call on, the gate's calls were made until none was due; the answer is the refusal among them
 pub record ReadFrom (c : Call) (refused : Option ℕ) (w w' : World) : Type 0 where

@@ -1,7 +1,6 @@
 -- Chains of calls: each goes on from where the one before, refused or not, stopped.
-use Rattle.std.specs.Prelude.{◌≡◌, List, [], ◌∷◌}
-use Rattle.laws.specs.Outcomes.{said_by}
-use Rattle.laws.specs.declared.outcome.Outcome.{Outcome}
+use Rattle.std.specs.Prelude.{◌≡◌, List, [], ◌∷◌, map}
+use Rattle.laws.specs.Outcomes.{Told, said_by}
 use Rattle.list.specs.Lists.{Noted}
 use Rattle.list.specs.declared.list.List.{List as Held}
 use Rattle.session.specs.Worlds.{Did, World}
@@ -11,7 +10,7 @@ use Rattle.session.specs.declared.state.Call.{Call}
 pub record Happened : Type 0 where
   pub before : World
   pub call : Call
-  pub told : Outcome
+  pub told : Told
   pub after : World
 
 -- it did what such a call does
@@ -24,15 +23,13 @@ Ran w [] w' = w ≡ w'
 Ran w (x ∷ xs) w' = (x.before ≡ w) × Step x × Ran x.after xs w'
 
 abbrev pub calls_of : List Happened → List Call
-calls_of [] = []
-calls_of (x ∷ xs) = x.call ∷ calls_of xs
+calls_of xs = map (λ (x : Happened). x.call) xs
 
-abbrev pub told_of : List Happened → List Outcome
-told_of [] = []
-told_of (x ∷ xs) = x.told ∷ told_of xs
+abbrev pub told_of : List Happened → List Told
+told_of xs = map (λ (x : Happened). x.told) xs
 
 -- that calls were made in order, and that what each told was noted
-pub record Performed (calls : List Call) (w w' : World) (t t' : Held Outcome) : Type 0 where
+pub record Performed (calls : List Call) (w w' : World) (t t' : Held Told) : Type 0 where
   pub chain : List Happened
   pub ran : Ran w chain w'
   pub are : calls_of chain ≡ calls

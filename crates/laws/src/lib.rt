@@ -3,14 +3,11 @@
 
 #![tactic(auto)]
 
-ghost use Rattle.std.specs.Prelude.{◌≡◌};
 ghost use Rattle.laws.specs.Bodies.{ReadFrom};
 ghost use Rattle.laws.specs.Chains.{Performed};
 ghost use Rattle.laws.specs.Outcomes.{said_by};
-ghost use Rattle.reader.specs.Scenes.{scene};
-ghost use Rattle.refusal.specs.Questions.{number_of};
-ghost use Rattle.session.specs.Boards.{member_board, report_board};
-ghost use Rattle.session.specs.Worlds.{Did, done_says, reading_says, world_of};
+ghost use Rattle.refusal.specs.Questions.{refused_by};
+ghost use Rattle.session.specs.Worlds.{Did, world};
 
 use list::list::List;
 use reader::TokenReader;
@@ -22,40 +19,27 @@ use session::state::{Call, Reading, Session};
 
 pub mod outcome;
 
-use outcome::Outcome;
+use outcome::{Outcome, Told};
 
-fn done(answer: Result<(), Refusal>) -> Outcome
-    ensures { said_by result ≡ done_says answer }
-{
-    match answer {
-        Ok(_) => Outcome::Done,
-        Err(refusal) => Outcome::Refused(refusal),
-    }
-}
+// The session, its reader and its two lists stay four parameters here, and `world` says in the contracts what they are
+// together: a struct of four `&mut`s gets no proof, since it is not covered that a place is written through one field while
+// another is lent; and one that owns them cannot be made of lists that the caller keeps.
 
-fn read(answer: Result<Reading, Refusal>) -> Outcome
-    ensures { said_by result ≡ reading_says answer }
-{
-    match answer {
-        Ok(reading) => Outcome::Read(reading),
-        Err(refusal) => Outcome::Refused(refusal),
-    }
-}
-
+// One call. A chain of them is data, over which what holds of every chain is said, so a call is an enum and no closure.
 fn make<S: ScriptReader>(
     session: &mut Session,
     script: &mut S,
     reports: &mut List<'_, Report>,
     members: &mut List<'_, MemberRecord>,
     call: Call,
-) -> Outcome
-    ensures { Did call (said_by result) (world_of session.old (scene S.TokenReader script.old) (report_board reports.old) (member_board members.old)) (world_of session.new (scene S.TokenReader script.new) (report_board reports.new) (member_board members.new)) }
+) -> Told
+    ensures { Did call (said_by result) (world S.TokenReader session.old script.old reports.old members.old) (world S.TokenReader session.new script.new reports.new members.new) }
 {
     match call {
-        Call::Open => done(session.open(script)),
-        Call::Member => read(session.member(script, reports, members)),
-        Call::Close => done(session.close(script)),
-        Call::Standing => Outcome::Stands(session.standing(reports, members)),
+        Call::Open => session.open(script).map(|()| Outcome::Done),
+        Call::Member => session.member(script, reports, members).map(Outcome::Read),
+        Call::Close => session.close(script).map(|()| Outcome::Done),
+        Call::Standing => Ok(Outcome::Stands(session.standing(reports, members))),
     }
 }
 
@@ -66,9 +50,9 @@ pub fn perform<S: ScriptReader>(
     reports: &mut List<'_, Report>,
     members: &mut List<'_, MemberRecord>,
     calls: &[Call],
-    told: &mut List<'_, Outcome>,
+    told: &mut List<'_, Told>,
 )
-    ensures { Performed calls.now (world_of session.old (scene S.TokenReader script.old) (report_board reports.old) (member_board members.old)) (world_of session.new (scene S.TokenReader script.new) (report_board reports.new) (member_board members.new)) told.old told.new }
+    ensures { Performed calls.now (world S.TokenReader session.old script.old reports.old members.old) (world S.TokenReader session.new script.new reports.new members.new) told.old told.new }
 {
     for call in calls {
         let outcome = make(session, script, reports, members, *call);
@@ -82,34 +66,28 @@ fn read_rest<S: ScriptReader>(
     script: &mut S,
     reports: &mut List<'_, Report>,
     members: &mut List<'_, MemberRecord>,
-) -> Option<Refusal>
-    ensures { ReadFrom Call.Member (number_of result) (world_of session.old (scene S.TokenReader script.old) (report_board reports.old) (member_board members.old)) (world_of session.new (scene S.TokenReader script.new) (report_board reports.new) (member_board members.new)) }
+) -> Result<(), Refusal>
+    ensures { ReadFrom Call.Member (refused_by result) (world S.TokenReader session.old script.old reports.old members.old) (world S.TokenReader session.new script.new reports.new members.new) }
 {
     loop {
-        let reading = match session.member(script, reports, members) {
-            Ok(reading) => reading,
-            Err(refusal) => return Some(refusal),
-        };
-        match reading {
+        match session.member(script, reports, members)? {
             Reading::Member => {}
-            Reading::NoMore => return session.close(script).err(),
-            Reading::Fault(_) => return None,
+            Reading::NoMore => return session.close(script),
+            Reading::Fault(_) => return Ok(()),
         }
     }
 }
 
 /// Reads a whole body: opens it, reads its members and closes it. It stops at the first refusal, which it answers, or at
-/// a fault.
+/// a fault, which the session tells.
 pub fn read_body<S: ScriptReader>(
     session: &mut Session,
     script: &mut S,
     reports: &mut List<'_, Report>,
     members: &mut List<'_, MemberRecord>,
-) -> Option<Refusal>
-    ensures { ReadFrom Call.Open (number_of result) (world_of session.old (scene S.TokenReader script.old) (report_board reports.old) (member_board members.old)) (world_of session.new (scene S.TokenReader script.new) (report_board reports.new) (member_board members.new)) }
+) -> Result<(), Refusal>
+    ensures { ReadFrom Call.Open (refused_by result) (world S.TokenReader session.old script.old reports.old members.old) (world S.TokenReader session.new script.new reports.new members.new) }
 {
-    if let Err(refusal) = session.open(script) {
-        return Some(refusal);
-    }
+    session.open(script)?;
     read_rest(session, script, reports, members)
 }

@@ -3,10 +3,12 @@
 use refusal::Refusal;
 use session::state::{Reading, Standing};
 
-#[derive(Clone, Copy)]
+/// What a call tells that is not refused.
+#[derive(Clone, Copy, Debug, PartialEq, Eq)]
 pub enum Outcome {
     Done,
-    Refused(Refusal),
     Read(Reading),
     Stands(Standing),
 }
+
+pub type Told = Result<Outcome, Refusal>;

@@ -2,17 +2,18 @@
 use Rattle.std.proofs.Common.{◌≡◌, ℕ, ◌+◌, ◌<◌, ◌≤◌, Bool, true, false, cond, not, ◌&&◌, ◌||◌, eqb, ltb, leb, List, [], ◌∷◌, length, get_or, take, drop, is_some, Some, None, codes, Decides, Option, sym, refl, ap, subst, arith, length-drop, eq-eqb, true-eqb}
 use Rattle.std.specs.Char.{is_ascii_digit}
 use Rattle.std.specs.List.{prefix_len}
-use Rattle.std.specs.Str.{bytes_eq}
+use Rattle.std.specs.Str.{byte, bytes_eq}
 use Rattle.std.proofs.lemmas.Slice.Eq.{bytes_eq-Decides}
 use Rattle.std.proofs.lemmas.List.{get_or_past, length-take-le}
-use Rattle.std.proofs.lemmas.List.Sums.{prefix_len-le-length}
+use Rattle.std.proofs.lemmas.List.Sums.{prefix_len-drop_yes, prefix_len-le-length}
+use Rattle.std.proofs.lemmas.Bool.{not-true, or_right}
 use Rattle.std.proofs.lemmas.Bool.Decides.{nat_tests}
 use Rattle.kinds.specs.Modifiers.{word_of}
 use Rattle.kinds.specs.declared.modifier_kind.ModifierKind.{ModifierKind}
 use Rattle.token.specs.Kinds.{k_eof, k_undetermined, k_skip, k_dot3, k_decimal, k_str, k_private_identifier, is_kind, is_identifier_name, can_be_named, modifier_of, is_modifier_kind}
 use Rattle.reader.proofs.Closing.{both}
 use Rattle.reader.specs.Sound.{known, spelled}
-use Rattle.lexeme.specs.Bytes.{byte, is_blank, is_quote, starts_name, in_name, on_line, in_quotes}
+use Rattle.lexeme.specs.Bytes.{is_blank, is_quote, starts_name, in_name, on_line, in_quotes}
 use Rattle.lexeme.specs.Format.{plain, named, skip, undetermined, name_code, holds_break, blanks, word, digits, private_name, string_literal, line_comment, before_close, block_comment, comment, dots, punctuator_kind, lexeme_of, token_of}
 use Rattle.lexeme.specs.Words.{keywords, kind_among, word_kind}
 use Rattle.lexeme.specs.declared.Lexeme.{Lexeme}
@@ -21,9 +22,9 @@ use Rattle.lexeme.specs.declared.Lexeme.{Lexeme}
 pub record Fitting (n : ℕ) (l : Lexeme) : Type 0 where
   pub some : 0 < l.size
   pub within : l.size ≤ n
-  pub more : eqb l.kind k_eof ≡ false
+  pub more : eqb l.kind.code k_eof ≡ false
   pub knows : (p : ℕ) → known (token_of p l) ≡ true
-  pub long : (p : ℕ) → spelled (modifier_of l.kind) (token_of p l) ≡ true
+  pub long : (p : ℕ) → spelled (modifier_of l.kind.code) (token_of p l) ≡ true
 
 at_length : {m n : ℕ} (l : Lexeme) → m ≡ n → Fitting m l → Fitting n l
 at_length l e f = subst (λ (k : ℕ). Fitting k l) e f
@@ -50,12 +51,8 @@ long_none (Some m) n h = grind arith
 abbrev is_other : ℕ → Bool
 is_other k = not (eqb k k_eof) && is_kind k && not (is_modifier_kind k)
 
-not_true : (a : Bool) → not a ≡ true → a ≡ false
-not_true true h = grind arith
-not_true false h = refl
-
 -- of such a kind, with no name code
-fitting_plain : (n k m : ℕ) (b : Bool) → 0 < m → m ≤ n → is_other k ≡ true → Fitting n (record { kind = k; size = m; line_break = b; name = 0 })
+fitting_plain : (n k m : ℕ) (b : Bool) → 0 < m → m ≤ n → is_other k ≡ true → Fitting n (record { kind = record { code = k }; size = m; line_break = b; name = 0 })
 fitting_plain n k m b s w h =
     let p = both (not (eqb k k_eof) && is_kind k) (not (is_modifier_kind k)) h in
     let q = both (not (eqb k k_eof)) (is_kind k) p.0 in
@@ -63,9 +60,9 @@ fitting_plain n k m b s w h =
     record {
       some = s;
       within = w;
-      more = not_true _ q.0;
+      more = not-true _ q.0;
       knows = λ _. rw o;
-      long = λ j. long_spelled (modifier_of k) j _ (long_none (modifier_of k) m (not_true _ p.1));
+      long = λ j. long_spelled (modifier_of k) j _ (long_none (modifier_of k) m (not-true _ p.1));
     }
 
 name_code_few : (s : List ℕ) → leb (name_code s) 2 ≡ true
@@ -77,12 +74,8 @@ name_code_few s = few (bytes_eq s (codes "constructor")) (bytes_eq s (codes "pro
     few false true = refl
     few false false = refl
 
-either_true : (a b : Bool) → b ≡ true → (a || b) ≡ true
-either_true true b h = refl
-either_true false b h = h
-
 known_named : (k c : ℕ) → is_kind k ≡ true → leb c 2 ≡ true → can_be_named k ≡ true → (is_kind k && leb c 2 && (eqb c 0 || can_be_named k)) ≡ true
-known_named k c h f g = let e = either_true (eqb c 0) (can_be_named k) g in rw (h, f, e)
+known_named k c h f g = let e = or_right (eqb c 0) (can_be_named k) g in rw (h, f, e)
 
 -- the same with the name code of a word
 fitting_named : (n k m : ℕ) (s : List ℕ) → 0 < m → m ≤ n → is_other k ≡ true → can_be_named k ≡ true → Fitting n (named k m (name_code s))
@@ -92,9 +85,9 @@ fitting_named n k m s some within h c =
     record {
       some = some;
       within = within;
-      more = not_true _ q.0;
+      more = not-true _ q.0;
       knows = λ _. known_named k _ q.1 (name_code_few s) c;
-      long = λ j. long_spelled (modifier_of k) j _ (long_none (modifier_of k) m (not_true _ p.1));
+      long = λ j. long_spelled (modifier_of k) j _ (long_none (modifier_of k) m (not-true _ p.1));
     }
 
 -- the rows of the keyword table are names, and modifiers are as long as their words
@@ -120,8 +113,7 @@ unfolding word_kind
 fits_word s = fits_among keywords s refl
 
 leading_some : (p : ℕ → Bool) (bs : List ℕ) → 0 < length bs → p (get_or bs 0 0) ≡ true → 0 < prefix_len p bs
-leading_some p [] h e = absurd (omega arith)
-leading_some p (b ∷ bs) h e = rw e (omega arith)
+leading_some p bs h e = omega (arith, prefix_len-drop_yes p bs 0 0 h e)
 
 -- where a byte other than 0 stands
 inside : (bs : List ℕ) (n b : ℕ) → 0 < b → get_or bs n 0 ≡ b → n < length bs

@@ -1,13 +1,7 @@
 -- Bytes, and the classes of bytes that run together.
-use Rattle.std.specs.Prelude.{ℕ, Bool, not, ◌||◌, codes, ◌==◌, slice_index}
-use Prim.Native.String.{String}
+use Rattle.std.specs.Prelude.{◌≡◌, ℕ, Bool, not, ◌||◌, ◌==◌}
 use Rattle.std.specs.Char.{is_ascii_digit, is_ascii_alphabetic}
-use Rattle.lexeme.specs.declared.bytes.Run.{Run}
-use Rattle.lexeme.specs.declared.bytes.Run.TheVariants.{Blank, Name, Digit, Line, Quoted}
-
--- a byte by its character
-abbrev pub byte : String → ℕ
-byte s = slice_index (codes s) 0
+use Rattle.std.specs.Str.{byte}
 
 -- the tab
 abbrev pub tab : ℕ
@@ -57,10 +51,6 @@ on_line b = not (is_line_break b)
 abbrev pub in_quotes : ℕ → ℕ → Bool
 in_quotes q b = not (b == q || b == backslash || is_line_break b)
 
--- the classes by the names that the code has for them
-abbrev pub in_run : Run → ℕ → Bool
-in_run Blank b = is_blank b
-in_run Name b = in_name b
-in_run Digit b = is_ascii_digit b
-in_run Line b = on_line b
-in_run (Quoted q) b = in_quotes q b
+-- a test answers of each byte what p says of it
+abbrev pub Computes : (ℕ → Bool → Type 0) → (ℕ → Bool) → Type 0
+Computes answers p = (b : ℕ) (r : Bool) → answers b r → r ≡ p b

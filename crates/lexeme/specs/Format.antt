@@ -1,26 +1,26 @@
 -- The lexical format: the first lexeme of a text, by its bytes. Each sort of token has one definition, which
 -- `lexeme_of` chooses by the first byte.
-use Rattle.std.specs.Prelude.{ℕ, ◌+◌, Bool, false, cond, ◌&&◌, List, [], ◌∷◌, length, take, drop, codes, ◌==◌, nat_lt, slice_index, slice_index_or}
+use Rattle.std.specs.Prelude.{ℕ, ◌+◌, Bool, false, cond, ◌&&◌, List, [], ◌∷◌, length, take, drop, codes, ◌==◌, nat_lt, slice_index}
 use Rattle.std.specs.Char.{is_ascii_digit}
 use Rattle.std.specs.List.{prefix_len}
-use Rattle.std.specs.Str.{bytes_eq}
+use Rattle.std.specs.Str.{byte, bytes_eq}
 use Rattle.token.specs.Kinds.{k_eof, k_undetermined, k_skip, k_bang, k_colon, k_comma, k_dot3, k_eq, k_langle, k_lbrack, k_lcurly, k_lparen, k_question, k_rangle, k_rbrack, k_rcurly, k_rparen, k_semicolon, k_star, k_decimal, k_str, k_private_identifier, k_at}
 use Rattle.token.specs.declared.Token.{Token}
-use Rattle.lexeme.specs.Bytes.{byte, is_blank, is_quote, starts_name, in_name, on_line, in_quotes}
+use Rattle.lexeme.specs.Bytes.{is_blank, is_quote, starts_name, in_name, on_line, in_quotes}
 use Rattle.lexeme.specs.Words.{word_kind}
 use Rattle.lexeme.specs.declared.Lexeme.{Lexeme}
 
 -- of a kind and size, with no line break and no name code
 abbrev pub plain : ℕ → ℕ → Lexeme
-plain k n = record { kind = k; size = n; line_break = false; name = 0 }
+plain k n = record { kind = record { code = k }; size = n; line_break = false; name = 0 }
 
 -- the same with a name code
 abbrev pub named : ℕ → ℕ → ℕ → Lexeme
-named k n c = record { kind = k; size = n; line_break = false; name = c }
+named k n c = record { kind = record { code = k }; size = n; line_break = false; name = c }
 
 -- a Skip, which alone can hold a line break
 abbrev pub skip : ℕ → Bool → Lexeme
-skip n b = record { kind = k_skip; size = n; line_break = b; name = 0 }
+skip n b = record { kind = record { code = k_skip }; size = n; line_break = b; name = 0 }
 
 -- so many bytes that begin no token
 abbrev pub undetermined : ℕ → Lexeme
@@ -80,7 +80,7 @@ block_comment bs =
 -- after `/`: a comment by the byte that follows, else the `/` is undetermined
 abbrev pub comment : List ℕ → Lexeme
 comment bs =
-    let b : ℕ = slice_index_or bs 0 0 in
+    let b : ℕ = slice_index bs 0 in
     cond (b == (byte "/")) (line_comment (drop 1 bs))
     (cond (b == (byte "*")) (block_comment (drop 1 bs))
     (undetermined 1))
@@ -113,7 +113,7 @@ punctuator_kind b =
 -- the first lexeme of a text, by its first byte; at the text's end Eof, which is empty
 unfoldable pub lexeme_of : List ℕ → Lexeme
 lexeme_of bs =
-    let b : ℕ = slice_index_or bs 0 0 in
+    let b : ℕ = slice_index bs 0 in
     let rest : List ℕ = drop 1 bs in
     cond (length bs == 0) (plain k_eof 0)
     (cond (is_blank b) (blanks bs)

@@ -7,4 +7,4 @@ use Rattle.lexeme.specs.declared.words.Row.{Row}
 -- the kind of the first row whose word is s, or a plain name's
 abbrev pub rows_kind : List Row → List ℕ → ℕ
 rows_kind [] s = k_ident
-rows_kind (w ∷ ws) s = cond (bytes_eq s w.word.now) w.kind (rows_kind ws s)
+rows_kind (w ∷ ws) s = cond (bytes_eq s w.word.now) w.kind.code (rows_kind ws s)

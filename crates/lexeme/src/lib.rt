@@ -6,20 +6,20 @@
 ghost use Rattle.std.specs.Prelude.{◌≡◌, ◌≤◌, length};
 ghost use Rattle.lexeme.specs.Format.{lexeme_of};
 
-use bytes::{after_first, is_blank, is_quote, starts_name};
+use bytes::{is_blank, is_quote, starts_name};
 use sorts::{
     blanks, comment, digits, dots, plain, private_name, punctuator_kind, string_literal, word,
 };
-use token::kind;
+use token::Kind;
 
 mod bytes;
 mod sorts;
 mod words;
 
 /// A token before it has a place.
-#[derive(Clone, Copy)]
+#[derive(Clone, Copy, Debug, PartialEq, Eq)]
 pub struct Lexeme {
-    pub kind: u8,
+    pub kind: Kind,
     /// In bytes; 0 at the text's end alone.
     pub size: usize,
     /// Whether it holds CR or LF. Only a Skip does.
@@ -29,14 +29,14 @@ pub struct Lexeme {
 }
 
 /// The first lexeme of a text, Eof where the text is empty.
+#[tactic(auto, unfolding(crate::specs::Format::lexeme_of))]
 pub fn first(text: &[u8]) -> Lexeme
     ensures value { result ≡ lexeme_of text.now }
     ensures within { result.size ≤ length text.now }
 {
-    if text.len() == 0 {
-        return plain(kind::EOF, 0);
-    }
-    let b = text[0];
+    let Some((&b, rest)) = text.split_first() else {
+        return plain(Kind::EOF, 0);
+    };
     if is_blank(b) {
         blanks(text)
     } else if starts_name(b) {
@@ -44,13 +44,13 @@ pub fn first(text: &[u8]) -> Lexeme
     } else if b.is_ascii_digit() {
         digits(text)
     } else if is_quote(b) {
-        string_literal(b, after_first(text))
+        string_literal(b, rest)
     } else if b == b'#' {
-        private_name(after_first(text))
+        private_name(rest)
     } else if b == b'/' {
-        comment(after_first(text))
+        comment(rest)
     } else if b == b'.' {
-        dots(after_first(text))
+        dots(rest)
     } else {
         plain(punctuator_kind(b), 1)
     }

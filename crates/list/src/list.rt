@@ -4,6 +4,7 @@ ghost use Rattle.std.specs.Prelude.{◌≤◌, length};
 
 pub mod methods;
 
+// Lent memory and a length, since nothing is allocated here.
 /// The first `len` places of the lent memory hold the elements; `missed` counts those that found no place.
 #[derive(Drop)]
 pub struct List<'a, T> {

@@ -9,7 +9,7 @@ use Rattle.kinds.specs.Modifiers.{modifier_number}
 use Rattle.kinds.specs.declared.modifier_kind.ModifierKind.{ModifierKind}
 use Rattle.modifiers.specs.declared.modifier.Modifier.{Modifier}
 use Rattle.modifiers.specs.Entries.{same_kind, word_at, keeps, without, added, above, apart, ascending, entry_of, kind_at, entry_at, differs, listed}
-use Rattle.modifiers.proofs.Known.{numbers, number_at, same_kind-true}
+use Rattle.kinds.proofs.Numbered.{number_at, numbers, same_kind_true}
 use Rattle.modifiers.proofs.Kept.{all_one_more, above_last, room}
 
 abbrev pub known : List ℕ → Bool
@@ -112,7 +112,7 @@ entry_found starts kind (x ∷ xs) h =
   where
     step : (b : Bool) → same_kind (kind_at x) kind ≡ b → x < 15 → entry_of kind (listed starts xs) ≡ cond (keeps kind (listed starts xs)) (Some (word_at kind (get_or starts (modifier_number kind) 0))) None → cond b (Some (entry_at starts x)) (entry_of kind (listed starts xs)) ≡ cond (b || keeps kind (listed starts xs)) (Some (word_at kind (get_or starts (modifier_number kind) 0))) None
     step true e l ih =
-        ap Some (entry_same (entry_at starts x) (word_at kind (get_or starts (modifier_number kind) 0)) (ap (λ n. get_or starts n 0) (sym (number_at x l) ∙ ap modifier_number (same_kind-true (kind_at x) kind e))) (same_kind-true (kind_at x) kind e))
+        ap Some (entry_same (entry_at starts x) (word_at kind (get_or starts (modifier_number kind) 0)) (ap (λ n. get_or starts n 0) (sym (number_at x l) ∙ ap modifier_number (same_kind_true (kind_at x) kind e))) (same_kind_true (kind_at x) kind e))
     step false e l ih = ih
 
 -- ---- the last entry

@@ -3,10 +3,10 @@ use Rattle.std.proofs.Common.{◌≡◌, ℕ, suc, ◌<◌, ◌≤◌, Bool, tru
 use Rattle.std.specs.List.{list_all}
 use Rattle.std.proofs.lemmas.Bool.{and_parts, and_from, or_left, cases_Bool, not-true, not_from_false, eq-eqb, ltb-true, both_ways}
 use Rattle.std.proofs.lemmas.Bool.Decides.{nat_tests}
-use Rattle.kinds.specs.Modifiers.{modifier_number}
+use Rattle.kinds.specs.Modifiers.{among, modifier_number}
 use Rattle.kinds.specs.declared.modifier_kind.ModifierKind.{ModifierKind}
 use Rattle.modifiers.specs.declared.modifier.Modifier.{Modifier}
-use Rattle.modifiers.proofs.Known.{among, numbers}
+use Rattle.kinds.proofs.Numbered.{numbers}
 use Rattle.modifiers.specs.Entries.{same_kind, keeps, without, added, above, apart, ascending, every_kind}
 
 -- ---- a test that all entries pass

@@ -1,4 +1,4 @@
 pub mod Held
 pub mod Kept
-pub mod Known
 pub mod Laws
+pub mod Walks

@@ -1,5 +1,5 @@
 -- Lists of keywords: each kind once, at its last place.
-use Rattle.std.specs.Prelude.{ℕ, ◌+◌, ◌^◌, Bool, true, false, cond, not, ◌&&◌, ◌||◌, ltb, List, [], ◌∷◌, ◌++◌, map, length, Some, None, filter, Option, ◌==◌, nat_lt, slice_index}
+use Rattle.std.specs.Prelude.{ℕ, ◌+◌, ◌^◌, Bool, true, false, cond, not, ◌&&◌, ◌||◌, List, [], ◌∷◌, ◌++◌, map, length, Some, None, filter, Option, ◌==◌, nat_lt, slice_index}
 use Rattle.std.specs.List.{list_all}
 pub use Rattle.kinds.specs.Modifiers.{every_kind, kind_at, same_kind}
 use Rattle.kinds.specs.Modifiers.{word_of}
@@ -34,7 +34,7 @@ fits m = nat_lt (end_of m) (2 ^ 32)
 
 -- whether a start is above those of all entries
 abbrev pub above : ℕ → List Modifier → Bool
-above start = list_all (λ m. ltb m.start start)
+above start = list_all (λ m. nat_lt m.start start)
 
 -- whether a keyword can stand after the kept ones
 abbrev pub may_follow : List Modifier → Modifier → Bool
@@ -48,7 +48,7 @@ apart (m ∷ ms) = not (keeps m.kind ms) && apart ms
 -- each start above those before it
 abbrev pub ascending : List Modifier → Bool
 ascending [] = true
-ascending (m ∷ ms) = list_all (λ n. ltb m.start n.start) ms && ascending ms
+ascending (m ∷ ms) = list_all (λ n. nat_lt m.start n.start) ms && ascending ms
 
 -- the entry of a kind
 abbrev pub entry_of : ModifierKind → List Modifier → Option Modifier

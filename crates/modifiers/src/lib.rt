@@ -5,8 +5,10 @@
 //! reads them.
 #![tactic(auto)]
 
+pub mod iter;
 pub mod modifier;
 pub mod modifiers;
 
+pub use iter::Iter;
 pub use modifier::{Modifier, Placed};
 pub use modifiers::Modifiers;

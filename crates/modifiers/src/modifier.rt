@@ -4,14 +4,14 @@ ghost use Rattle.std.specs.Prelude.{◌≡◌, if◌then◌else◌, Some, None};
 use kinds::ModifierKind;
 
 /// A keyword and where it begins.
-#[derive(Clone, Copy)]
+#[derive(Clone, Copy, Debug, PartialEq, Eq)]
 pub struct Modifier {
     pub start: u32,
     pub kind: ModifierKind,
 }
 
 /// A keyword with both its ends.
-#[derive(Clone, Copy)]
+#[derive(Clone, Copy, Debug, PartialEq, Eq)]
 pub struct Placed {
     pub kind: ModifierKind,
     pub start: u32,

@@ -11,9 +11,10 @@ use kinds::ModifierKinds;
 
 mod methods;
 
+// Arrays by value and a length, since nothing is allocated here and a list is copied.
 /// The kept keywords: the set of their kinds, the last start of each by its number, and the
 /// numbers in the order of those starts.
-#[derive(Clone, Copy)]
+#[derive(Clone, Copy, Debug)]
 pub struct Modifiers {
     kinds: ModifierKinds,
     starts: [u32; 15],

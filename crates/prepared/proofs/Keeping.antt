@@ -7,7 +7,8 @@ use Rattle.reader.specs.Tokens.{ended, head}
 use Rattle.script.specs.Lawful.{Itemed, Lawful, Takes}
 use Rattle.token.specs.declared.Token.{Token}
 use Rattle.prepared.specs.Answers.{are_itemed, is_itemed, judged, keeps_rules, method_answer, method_told, plain_answer, plain_told, prepared_answers, refused_at}
-use Rattle.prepared.specs.Records.{first_at, method_number, part_number}
+use Rattle.prepared.specs.Records.{first_at}
+use Rattle.prepared.specs.declared.records.Asked.TheVariants as asked
 use Rattle.prepared.specs.declared.records.PartRecord.{PartRecord}
 use Rattle.prepared.specs.declared.records.Told.{Told}
 use Rattle.prepared.specs.declared.records.Told.TheVariants.{Plain, Method}
@@ -65,7 +66,7 @@ answer_itemed (Some r) t n m h = told_itemed r.told r.count t n m h
 pub prepared_lawful : (rs : List PartRecord) → Lawful (prepared_answers rs)
 prepared_lawful rs =
     record {
-      parts = λ p c ts h. part_answered ts (ended_some ts h) (head ts) (first_at (part_number p) (head ts).start rs);
-      methods = λ c ts h. method_answered ts (ended_some ts h) (head ts) (first_at method_number (head ts).start rs);
-      items = λ c ts m h. answer_itemed (first_at method_number (head ts).start rs) (head ts) (length ts - 1) m h;
+      parts = λ p c ts h. part_answered ts (ended_some ts h) (head ts) (first_at (asked.Plain p) (head ts).start rs);
+      methods = λ c ts h. method_answered ts (ended_some ts h) (head ts) (first_at asked.Method (head ts).start rs);
+      items = λ c ts m h. answer_itemed (first_at asked.Method (head ts).start rs) (head ts) (length ts - 1) m h;
     }

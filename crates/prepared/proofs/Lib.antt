@@ -1,4 +1,3 @@
-pub mod Finding
 pub mod Counting
 pub mod Stepping
 pub mod Keeping

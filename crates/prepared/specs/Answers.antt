@@ -7,15 +7,17 @@ use Rattle.parts.specs.declared.Part.TheVariants.{IndexRest}
 use Rattle.parts.specs.declared.Span.{Span}
 use Rattle.reader.specs.Answers.{Answer, Answers}
 use Rattle.reader.specs.Tokens.{head}
+use Rattle.token.specs.Spans.{span_of}
 use Rattle.token.specs.declared.Token.{Token}
-use Rattle.prepared.specs.Records.{first_at, method_number, part_number}
+use Rattle.prepared.specs.Records.{first_at}
+use Rattle.prepared.specs.declared.records.Asked.TheVariants as asked
 use Rattle.prepared.specs.declared.records.PartRecord.{PartRecord}
 use Rattle.prepared.specs.declared.records.Told.{Told}
 use Rattle.prepared.specs.declared.records.Told.TheVariants.{Plain, Method}
 
 -- a refusal at the token, which takes nothing
 abbrev pub refused_at : {F : Type 0} → Token → Answer F
-refused_at t = record { result = Err (record { start = t.start; end = t.end }); count = 0 }
+refused_at t = record { result = Err (span_of t); count = 0 }
 
 -- it takes no more tokens than there are, and facts take one at least
 abbrev pub keeps_rules : Bool → ℕ → ℕ → Bool
@@ -55,14 +57,14 @@ method_answer (Some r) t n = method_told r.told r.count t n
 
 -- the first record of a part, and of a method's rest
 abbrev pub part_in : List PartRecord → Part → Token → ℕ → Answer Span
-part_in rs p t n = plain_answer (first_at (part_number p) t.start rs) t n
+part_in rs p t n = plain_answer (first_at (asked.Plain p) t.start rs) t n
 
 abbrev pub method_in : List PartRecord → Token → ℕ → Answer MethodFacts
-method_in rs t n = method_answer (first_at method_number t.start rs) t n
+method_in rs t n = method_answer (first_at asked.Method t.start rs) t n
 
 -- some record of an index rest, whether it keeps the rules or not
 abbrev pub index_in : List PartRecord → Token → Bool
-index_in rs t = is_some (first_at (part_number IndexRest) t.start rs)
+index_in rs t = is_some (first_at (asked.Plain IndexRest) t.start rs)
 
 -- at the current token, in every context
 abbrev pub prepared_answers : List PartRecord → Answers

@@ -1,33 +1,51 @@
 //! What the records answer at a token: the first record that stands there, if it keeps the rules, and else a refusal.
 
-ghost use Rattle.std.specs.Prelude.{◌≡◌};
-ghost use Rattle.prepared.specs.Answers.{is_itemed, keeps_rules, method_in, part_in};
+ghost use Rattle.std.specs.Prelude.{◌≡◌, true, is_ok};
+ghost use Rattle.reader.specs.Scenes.{past, scene};
+ghost use Rattle.reader.specs.Sound.{sound};
+ghost use Rattle.prepared.specs.Answers.{are_itemed, is_itemed, keeps_rules, method_in, part_in, refused_at};
 
-use crate::records::{METHOD, PartRecord, Told, find, part_number};
+use crate::records::{Asked, PartRecord, Told, find};
+use crate::taking::take_many;
 use parts::{MethodFacts, Part, Span};
+use reader::TokenReader;
 use token::Token;
 
 // What a part comes to, and how many tokens it takes.
-#[derive(Clone, Copy)]
+#[derive(Clone, Copy, Debug, PartialEq, Eq)]
 pub struct Taken<F> {
     pub result: Result<F, Span>,
     pub count: u32,
 }
 
-fn here(t: Token) -> Span
-    ensures { result ≡ record { start = t.start; end = t.end } }
-{
-    Span {
-        start: t.start,
-        end: t.end,
+impl<F> Taken<F> {
+    // A refusal at the token, which takes nothing.
+    fn refused(t: Token) -> Taken<F>
+        ensures result { result.result ≡ (refused_at {F = F} t).result }
+        ensures count { result.count ≡ (refused_at {F = F} t).count }
+    {
+        Taken {
+            result: Err(Span::from(t)),
+            count: 0,
+        }
     }
-}
 
-// Whether an answer takes no more tokens than are left, and facts one at least.
-fn keeps_rules(facts: bool, count: u32, left: usize) -> bool
-    ensures { result ≡ keeps_rules facts count left }
-{
-    count as usize <= left && (!facts || count > 0)
+    // Whether it takes no more tokens than are left, and facts one at least.
+    fn keeps_rules(&self, left: usize) -> bool
+        ensures { result ≡ keeps_rules (is_ok self.now.result) self.now.count left }
+    {
+        self.count as usize <= left && (self.result.is_err() || self.count > 0)
+    }
+
+    // Takes as many tokens as it says, and tells what it came to.
+    pub fn take<R: TokenReader>(self, r: &mut R) -> Result<F, Span>
+        ensures value { result ≡ self.result }
+        ensures after { scene R.TokenReader r.new ≡ past self.count (scene R.TokenReader r.old) }
+        ensures sound { sound (R.TokenReader.tokens r.old) ≡ true → sound (R.TokenReader.tokens r.new) ≡ true }
+    {
+        take_many(r, self.count);
+        self.result
+    }
 }
 
 fn is_itemed(m: MethodFacts) -> bool
@@ -36,28 +54,30 @@ fn is_itemed(m: MethodFacts) -> bool
     m.count != 1 || m.rest.is_some() || m.first_item.is_some()
 }
 
+fn are_itemed(told: Result<MethodFacts, Span>) -> bool
+    ensures { result ≡ are_itemed told }
+{
+    match told {
+        Ok(m) => is_itemed(m),
+        Err(_) => true,
+    }
+}
+
 // What the records answer for a part at the token `t`, with `left` tokens from it to the end of input.
 pub fn part_answer(records: &[PartRecord], part: Part, t: Token, left: usize) -> Taken<Span>
     ensures result { result.result ≡ (part_in records.now part t left).result }
     ensures count { result.count ≡ (part_in records.now part t left).count }
 {
-    let refused = Taken {
-        result: Err(here(t)),
-        count: 0,
-    };
-    let Some(r) = find(records, part_number(part), t.start) else {
-        return refused;
-    };
-    let Told::Plain { part: _, result } = r.told else {
-        return refused;
-    };
-    if !keeps_rules(result.is_ok(), r.count, left) {
-        return refused;
-    }
-    Taken {
-        result,
-        count: r.count,
-    }
+    find(records, Asked::Plain(part), t.start)
+        .and_then(|r| match r.told {
+            Told::Plain { result, .. } => Some(Taken {
+                result,
+                count: r.count,
+            }),
+            Told::Method { .. } => None,
+        })
+        .filter(|told| told.keeps_rules(left))
+        .unwrap_or(Taken::refused(t))
 }
 
 // What the records answer for a method's rest there.
@@ -65,26 +85,14 @@ pub fn method_answer(records: &[PartRecord], t: Token, left: usize) -> Taken<Met
     ensures result { result.result ≡ (method_in records.now t left).result }
     ensures count { result.count ≡ (method_in records.now t left).count }
 {
-    let refused = Taken {
-        result: Err(here(t)),
-        count: 0,
-    };
-    let Some(r) = find(records, METHOD, t.start) else {
-        return refused;
-    };
-    let Told::Method { result } = r.told else {
-        return refused;
-    };
-    if !keeps_rules(result.is_ok(), r.count, left) {
-        return refused;
-    }
-    if let Ok(m) = result
-        && !is_itemed(m)
-    {
-        return refused;
-    }
-    Taken {
-        result,
-        count: r.count,
-    }
+    find(records, Asked::Method, t.start)
+        .and_then(|r| match r.told {
+            Told::Plain { .. } => None,
+            Told::Method { result } => Some(Taken {
+                result,
+                count: r.count,
+            }),
+        })
+        .filter(|told| told.keeps_rules(left) && are_itemed(told.result))
+        .unwrap_or(Taken::refused(t))
 }

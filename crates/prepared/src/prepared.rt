@@ -12,7 +12,7 @@ pub mod methods;
 #[derive(Drop)]
 pub struct Prepared<'a> {
     reader: Table<'a>,
-    // How many tokens there are before the end of input.
+    // How many tokens there are before the end of input. Counted here, since a reader of tokens tells no count.
     left: usize,
     records: &'a [PartRecord],
     ghost counted: { left + 1 ≡ length (table_tokens reader) },

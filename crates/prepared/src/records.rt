@@ -1,12 +1,12 @@
 //! Records of parts, and the first of them that stands at a place.
 
 ghost use Rattle.std.specs.Prelude.{◌≡◌};
-ghost use Rattle.prepared.specs.Records.{first_at, part_number, told_number};
+ghost use Rattle.prepared.specs.Records.{asked_of, first_at};
 
 use parts::{MethodFacts, Part, Span};
 
 /// What a record tells of the part that it is of: facts, or the place of a refusal.
-#[derive(Clone, Copy)]
+#[derive(Clone, Copy, Debug, PartialEq, Eq)]
 pub enum Told {
     Plain {
         part: Part,
@@ -18,7 +18,7 @@ pub enum Told {
 }
 
 /// A part that is answered beforehand.
-#[derive(Clone, Copy)]
+#[derive(Clone, Copy, Debug, PartialEq, Eq)]
 pub struct PartRecord {
     pub told: Told,
     /// The start of the token where the part begins.
@@ -27,31 +27,31 @@ pub struct PartRecord {
     pub count: u32,
 }
 
-pub(crate) const METHOD: u8 = 5;
-
-pub(crate) fn part_number(part: Part) -> u8
-    ensures { result ≡ part_number part }
-{
-    part as u8
+// What a reader of scripts is asked for: a plain part, or a method's rest.
+#[derive(Clone, Copy, Debug, PartialEq, Eq)]
+pub(crate) enum Asked {
+    Plain(Part),
+    Method,
 }
 
-fn told_number(told: Told) -> u8
-    ensures { result ≡ told_number told }
-{
-    match told {
-        Told::Plain { part, .. } => part_number(part),
-        Told::Method { .. } => METHOD,
-    }
-}
-
-// The first record of this number at this start.
-pub(crate) fn find(records: &[PartRecord], number: u8, start: u32) -> Option<PartRecord>
-    ensures { result ≡ first_at number start records.now }
-{
-    for r in records {
-        if told_number(r.told) == number && r.start == start {
-            return Some(*r);
+impl Told {
+    // What this is an answer to.
+    fn asked(self) -> Asked
+        ensures { result ≡ asked_of self }
+    {
+        match self {
+            Told::Plain { part, .. } => Asked::Plain(part),
+            Told::Method { .. } => Asked::Method,
         }
     }
-    None
+}
+
+// The first record of what is asked, at this start.
+pub(crate) fn find(records: &[PartRecord], asked: Asked, start: u32) -> Option<PartRecord>
+    ensures { result ≡ first_at asked start records.now }
+{
+    records
+        .iter()
+        .find(|r| r.told.asked() == asked && r.start == start)
+        .copied()
 }

@@ -11,9 +11,7 @@ pub fn take_many<R: TokenReader>(r: &mut R, count: u32)
     ensures after { scene R.TokenReader r.new ≡ past count (scene R.TokenReader r.old) }
     ensures sound { sound (R.TokenReader.tokens r.old) ≡ true → sound (R.TokenReader.tokens r.new) ≡ true }
 {
-    let mut left = count;
-    while left > 0 {
+    for _ in 0..count {
         r.advance();
-        left -= 1;
     }
 }

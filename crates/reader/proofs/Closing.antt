@@ -28,7 +28,7 @@ pub length_next : (ts : List Token) → length (next ts) ≤ length ts
 length_next [] = omega arith
 length_next (t ∷ ts) = grind (arith, nat_tests)
 
-pub next_falls : (ts : List Token) → ((head ts).kind ≡ 0 → ⊥) → length (next ts) < length ts
+pub next_falls : (ts : List Token) → ((head ts).kind.code ≡ 0 → ⊥) → length (next ts) < length ts
 next_falls [] h = grind arith
 next_falls (t ∷ ts) h = grind (arith, nat_tests)
 
@@ -65,7 +65,7 @@ pub record First (t : Token) (ts : List Token) : Type 0 where
   pub more : is_eof t ≡ false
   pub is_sized : sized t ≡ true
   pub some : t.start < t.end
-  pub long : spelled (modifier_of t.kind) t ≡ true
+  pub long : spelled (modifier_of t.kind.code) t ≡ true
   pub within : t.end ≤ (head ts).start
   pub rest : sound ts ≡ true
 
@@ -77,7 +77,7 @@ sound_first t u us h =
     let e : is_eof t ≡ false = (let x = p.ends in grind (arith, nat_tests)) in
     let q = both (sized t && before t ts) (all_placed ts) p.places in
     let r = both (sized t) (before t ts) q.0 in
-    let s : (ltb t.start t.end && spelled (modifier_of t.kind) t) ≡ true = rw e at r.0 in
+    let s : (ltb t.start t.end && spelled (modifier_of t.kind.code) t) ≡ true = rw e at r.0 in
     let d = both (ltb t.start t.end) _ s in
     let b : leb t.end u.start ≡ true = rw e at r.1 in
     let f : ended ts ≡ true = rw e at p.ends in

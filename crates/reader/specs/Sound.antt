@@ -8,7 +8,7 @@ use Rattle.reader.specs.Tokens.{is_eof, ended}
 
 -- a known kind, and a name code of 0 to 2, above 0 only on a name, a string or a private name
 abbrev pub known : Token → Bool
-known t = is_kind t.kind && nat_le t.name 2 && (t.name == 0 || can_be_named t.kind)
+known t = is_kind t.kind.code && nat_le t.name 2 && (t.name == 0 || can_be_named t.kind.code)
 
 -- question 2: every token is known
 abbrev pub all_known : List Token → Bool
@@ -22,7 +22,7 @@ spelled (Some m) t = t.end == t.start + length (word_of m)
 
 -- Eof is empty; any other token ends after its start, a modifier keyword by the length of its word
 abbrev pub sized : Token → Bool
-sized t = cond (is_eof t) (t.start == t.end) (nat_lt t.start t.end && spelled (modifier_of t.kind) t)
+sized t = cond (is_eof t) (t.start == t.end) (nat_lt t.start t.end && spelled (modifier_of t.kind.code) t)
 
 -- it does not reach beyond the start of the next one
 abbrev pub before : Token → List Token → Bool

@@ -7,10 +7,10 @@ use Rattle.reader.specs.declared.Ahead.TheVariants.{One, Two, Three}
 
 -- the end of an empty input
 abbrev pub eof0 : Token
-eof0 = record { kind = 0; start = 0; end = 0; line_break = false; name = 0 }
+eof0 = record { kind = record { code = 0 }; start = 0; end = 0; line_break = false; name = 0 }
 
 abbrev pub is_eof : Token → Bool
-is_eof t = t.kind == k_eof
+is_eof t = t.kind.code == k_eof
 
 -- the current token
 abbrev pub head : List Token → Token

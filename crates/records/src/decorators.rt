@@ -7,6 +7,7 @@ use parts::Span;
 pub mod methods;
 
 /// The first `count` of the places hold the spans.
+// An array and a count: a record is copied as it is and lies in lent memory, so nothing of it is allocated.
 #[derive(Clone, Copy)]
 pub struct Decorators {
     spans: [Span; 16],

@@ -3,7 +3,7 @@ use kinds::ModifierKind;
 use modifiers::Modifiers;
 use parts::{MethodFacts, Span};
 
-#[derive(Clone, Copy)]
+#[derive(Clone, Copy, Debug, PartialEq, Eq)]
 pub enum NameKind {
     Identifier,
     String,
@@ -13,14 +13,15 @@ pub enum NameKind {
 }
 
 /// A member's name. The span of a computed one is its expression's, without the brackets.
-#[derive(Clone, Copy)]
+#[derive(Clone, Copy, Debug, PartialEq, Eq)]
 pub struct Name {
     pub kind: NameKind,
     pub span: Span,
 }
 
 /// What methods, getters, setters and constructors have.
-#[derive(Clone, Copy)]
+// The first five fields are also those of properties and accessors; they stay flat, since programs read them one by one.
+#[derive(Clone, Copy, Debug, PartialEq, Eq)]
 pub struct Method {
     pub name: Name,
     pub accessibility: Option<ModifierKind>,
@@ -33,7 +34,7 @@ pub struct Method {
     pub facts: MethodFacts,
 }
 
-#[derive(Clone, Copy)]
+#[derive(Clone, Copy, Debug, PartialEq, Eq)]
 pub struct Property {
     pub name: Name,
     pub accessibility: Option<ModifierKind>,
@@ -48,7 +49,7 @@ pub struct Property {
     pub value: Option<Span>,
 }
 
-#[derive(Clone, Copy)]
+#[derive(Clone, Copy, Debug, PartialEq, Eq)]
 pub struct Accessor {
     pub name: Name,
     pub accessibility: Option<ModifierKind>,
@@ -61,7 +62,7 @@ pub struct Accessor {
 }
 
 /// What belongs to the form of a member.
-#[derive(Clone, Copy)]
+#[derive(Clone, Copy, Debug, PartialEq, Eq)]
 pub enum Form {
     Method(Method),
     Getter(Method),

@@ -2,21 +2,24 @@
 
 #![tactic(auto)]
 
-ghost use Rattle.std.specs.Prelude.{◌≡◌};
+ghost use Rattle.std.specs.Prelude.{◌≡◌, Some};
+ghost use Rattle.reports.specs.Lines.{line, or_dash};
 ghost use Rattle.reports.specs.Reports.{at_place, bits_of, keyword_report};
 
 use kinds::{ModifierKind, ModifierKinds};
 use parts::Span;
 use small_set::SmallKind;
+use std::fmt;
 
 // What stands for no kind, and for no set.
 const NO_KIND: u8 = 255;
 
 const NO_SET: u16 = 65_535;
 
+// Plain numbers, which a table of reports holds and a program prints.
 /// A rule by its number, the place, the keyword and the other keyword by their numbers (255 for none), and the allowed
 /// set by its bits (65535 for none).
-#[derive(Clone, Copy)]
+#[derive(Clone, Copy, Debug, PartialEq, Eq)]
 pub struct Report {
     pub rule: u8,
     pub start: u32,
@@ -56,14 +59,51 @@ impl Report {
             start: place.start,
             end: place.end,
             kind: kind.number(),
-            other: match other {
-                Some(k) => k.number(),
-                None => NO_KIND,
-            },
-            allowed: match allowed {
-                Some(set) => set.bits(),
-                None => NO_SET,
-            },
+            other: other.map_or(NO_KIND, ModifierKind::number),
+            allowed: allowed.map_or(NO_SET, ModifierKinds::bits),
         }
+    }
+}
+
+/// A number, printed as a dash where it is the one that stands for none.
+#[derive(Clone, Copy, Debug, PartialEq, Eq)]
+pub struct OrDash {
+    pub number: u16,
+    pub none: u16,
+}
+
+impl fmt::Display for OrDash {
+    ghost output = { λ x. Some (or_dash x.none x.number) };
+
+    fn fmt<W: fmt::Write>(&self, f: &mut fmt::Formatter<W>) -> fmt::Result {
+        if self.number == self.none {
+            write!(f, "-")
+        } else {
+            write!(f, "{}", self.number)
+        }
+    }
+}
+
+impl fmt::Display for Report {
+    ghost output = { λ r. Some (line r) };
+
+    fn fmt<W: fmt::Write>(&self, f: &mut fmt::Formatter<W>) -> fmt::Result {
+        let kind = kind_or_dash(self.kind);
+        let other = kind_or_dash(self.other);
+        let allowed = OrDash {
+            number: self.allowed,
+            none: NO_SET,
+        };
+        let (rule, start, end) = (self.rule, self.start, self.end);
+        write!(f, "{rule} {start} {end} {kind} {other} {allowed}")
+    }
+}
+
+fn kind_or_dash(number: u8) -> OrDash
+    ensures { result ≡ record { number = number; none = 255 } }
+{
+    OrDash {
+        number: u16::from(number),
+        none: u16::from(NO_KIND),
     }
 }

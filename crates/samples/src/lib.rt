@@ -8,6 +8,7 @@ ghost use Rattle.std.specs.Prelude.{◌≡◌};
 
 const STANDS: u8 = 0;
 
+// It answers a constant, since what is said stands in its contract.
 /// What the definitions say of each of the texts.
 pub fn samples_stand() -> u8
     ensures stands { result ≡ 0 }

@@ -21,6 +21,8 @@ pub trait ScriptReader: TokenReader {
         ensures sound { sound (Self.TokenReader.tokens self.old) ≡ true → sound (Self.TokenReader.tokens self.new) ≡ true }
         ensures lawful { Lawful (Self.TokenReader.answers self.old) };
 
+    // Not one question with the one above over the type of the facts: which plain part is asked for is a value, and a
+    // method's rest alone has facts.
     /// Takes all that stands after the name of a method, getter, setter or constructor.
     fn take_method(&mut self, context: Context) -> Result<MethodFacts, Span>
         ensures value { result ≡ (method_at context.bits (scene Self.TokenReader self.old)).result }

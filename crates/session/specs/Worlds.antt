@@ -5,15 +5,18 @@ use Rattle.dialogue.specs.Dialogues.{Dialogue, after, gains, outcome}
 use Rattle.dialogue.specs.Fatal.{fatal_number}
 use Rattle.dialogue.specs.declared.Fatal.{Fatal}
 use Rattle.kinds.specs.declared.context.Context.{Context}
-use Rattle.reader.specs.Scenes.{Scene, past_one}
+use Rattle.list.specs.declared.list.List.{List as Held}
+use Rattle.reader.specs.Scenes.{Scene, past_one, scene}
 use Rattle.reader.specs.Tokens.{head}
+use Rattle.reader.specs.declared.TokenReader.{Ghosts}
 use Rattle.records.specs.Told.{Told}
+use Rattle.records.specs.declared.record.MemberRecord.{MemberRecord}
 use Rattle.refusal.specs.Numbers.{refusal_number}
 use Rattle.refusal.specs.Questions.{Question, first_no}
 use Rattle.refusal.specs.declared.Refusal.{Refusal}
 use Rattle.reports.specs.declared.Report.{Report}
 use Rattle.token.specs.Kinds.{k_lcurly, k_rcurly}
-use Rattle.session.specs.Boards.{Board, has_place, note_in}
+use Rattle.session.specs.Boards.{Board, has_place, member_board, note_in, report_board}
 use Rattle.session.specs.declared.state.Call.{Call}
 use Rattle.session.specs.declared.state.Call.TheVariants.{Open as CallOpen, Member as CallMember, Close as CallClose, Standing as CallStanding}
 use Rattle.session.specs.declared.state.Language.{Language}
@@ -30,7 +33,14 @@ abbrev pub state_number : State → ℕ
 state_number Fresh = 0
 state_number Open = 1
 state_number Closed = 2
-state_number Faulted = 3
+state_number (Faulted f) = 3
+
+-- the fatal rule that a state is after, if it is after one
+abbrev pub fatal_of : State → Option Fatal
+fatal_of Fresh = None
+fatal_of Open = None
+fatal_of Closed = None
+fatal_of (Faulted f) = Some f
 
 abbrev pub is_type_script : Language → Bool
 is_type_script TypeScript = true
@@ -43,7 +53,7 @@ rule_of (Some f) = Some (fatal_number f)
 
 -- a session that was just made, with its settings
 abbrev pub fresh_session : Language → Context → Session
-fresh_session l c = record { state = Fresh; language = l; context = c; fatal = None }
+fresh_session l c = record { state = Fresh; language = l; context = c }
 
 -- the session, what the reader means, and the two lists
 pub record World : Type 0 where
@@ -55,12 +65,16 @@ pub record World : Type 0 where
 abbrev pub world_of : Session → Scene → Board Report → Board Told → World
 world_of s v r m = record { session = s; scene = v; reports = r; members = m }
 
+-- the world of a session over a reader, with its two lists
+abbrev pub world : {X : Type 0} → Ghosts X → Session → X → Held Report → Held MemberRecord → World
+world g s x r m = world_of s (scene g x) (report_board r) (member_board m)
+
 abbrev pub is_in : State → World → Bool
 is_in s w = state_number w.session.state == state_number s
 
 -- whether the current token is of a kind
 abbrev pub is_at : ℕ → World → Bool
-is_at k w = (head w.scene.tokens).kind == k
+is_at k w = (head w.scene.tokens).kind.code == k
 
 -- open, 7: is the session fresh? 8: is it at `{`? member, 9: is the session open? 10: has the member list a free place?
 -- close, 9: is the session open? 11: is it at `}`? standing is never refused
@@ -98,11 +112,11 @@ record_in (Err f) b = b
 
 -- the session in another state
 abbrev pub in_state : State → Session → Session
-in_state z s = record { state = z; language = s.language; context = s.context; fatal = s.fatal }
+in_state z s = record { state = z; language = s.language; context = s.context }
 
 abbrev pub faulted_by : Result (Option Told) Fatal → Session → Session
 faulted_by (Ok t) s = s
-faulted_by (Err f) s = record { state = Faulted; language = s.language; context = s.context; fatal = Some f }
+faulted_by (Err f) s = in_state (Faulted f) s
 
 -- the session in another state, and the brace taken
 abbrev pub braced : State → World → World
@@ -130,7 +144,7 @@ tells CallClose w = carried
 tells CallStanding w =
     stands (state_number w.session.state) (length w.members.contents.holds) (length w.reports.contents.holds)
     w.reports.contents.misses
-    (rule_of w.session.fatal)
+    (rule_of (fatal_of w.session.state))
 
 abbrev pub refused_or : Option ℕ → Answer → Answer
 refused_or None a = a
@@ -156,4 +170,9 @@ reading_says (Ok x) = kept_says x
 reading_says (Err r) = refused (refusal_number r)
 
 abbrev pub standing_says : Standing → Answer
-standing_says s = stands (state_number s.state) s.members s.kept s.missed (rule_of s.fatal)
+standing_says s = stands (state_number s.state) s.members s.kept s.missed (rule_of (fatal_of s.state))
+
+-- an answer that refuses unless a question is answered yes
+abbrev pub unless : Bool → Refusal → Result Unit Refusal
+unless true r = Ok tt
+unless false r = Err r

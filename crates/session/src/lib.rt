@@ -9,7 +9,7 @@ ghost use Rattle.records.specs.Told.{Told};
 ghost use Rattle.reports.specs.declared.Report.{Report as Reported};
 ghost use Rattle.class.specs.Members.{told_of};
 ghost use Rattle.session.specs.Boards.{Board, member_board, report_board};
-ghost use Rattle.session.specs.Worlds.{Did, done_says, fresh_session, is_type_script, kept_says, reading_of, reading_says, record_in, standing_says, world_of};
+ghost use Rattle.session.specs.Worlds.{Did, done_says, fresh_session, is_type_script, kept_says, reading_of, reading_says, record_in, standing_says, unless, world, world_of};
 
 use class::read_member;
 use dialogue::Fatal;
@@ -20,7 +20,7 @@ use records::MemberRecord;
 use refusal::Refusal;
 use reports::Report;
 use script::ScriptReader;
-use token::kind;
+use token::Kind;
 
 pub mod state;
 
@@ -29,10 +29,7 @@ use state::{Call, Language, Reading, Session, Standing, State};
 fn is_typescript(language: Language) -> bool
     ensures { result ≡ is_type_script language }
 {
-    match language {
-        Language::TypeScript => true,
-        Language::JavaScript => false,
-    }
+    language == Language::TypeScript
 }
 
 fn keep(next: Option<MemberRecord>, members: &mut List<'_, MemberRecord>) -> Reading
@@ -48,6 +45,13 @@ fn keep(next: Option<MemberRecord>, members: &mut List<'_, MemberRecord>) -> Rea
     }
 }
 
+// Refuses, if a question is answered no.
+fn ask(yes: bool, refusal: Refusal) -> Result<(), Refusal>
+    ensures { result ≡ unless yes refusal }
+{
+    if yes { Ok(()) } else { Err(refusal) }
+}
+
 impl Session {
     /// A fresh session with its settings.
     pub fn new(language: Language, context: Context) -> Session
@@ -57,7 +61,6 @@ impl Session {
             state: State::Fresh,
             language,
             context,
-            fatal: None,
         }
     }
 
@@ -65,27 +68,21 @@ impl Session {
     pub fn open<R: TokenReader>(&mut self, script: &mut R) -> Result<(), Refusal>
         ensures { (b : Board Reported) (m : Board Told) → Did Call.Open (done_says result) (world_of self.old (scene R.TokenReader script.old) b m) (world_of self.new (scene R.TokenReader script.new) b m) }
     {
-        let State::Fresh = self.state else {
-            return Err(Refusal::NotFresh);
-        };
-        if script.current().kind != kind::LCURLY {
-            return Err(Refusal::NoOpenBrace);
-        }
+        ask(self.state == State::Fresh, Refusal::NotFresh)?;
+        ask(script.current().kind == Kind::LCURLY, Refusal::NoOpenBrace)?;
         script.advance();
         self.state = State::Open;
         Ok(())
     }
 
+    // As `open` in form, but a function for both would take two states, a brace and two refusals: longer than what it saves.
+
     /// Closes an open session at `}`, which it takes.
     pub fn close<R: TokenReader>(&mut self, script: &mut R) -> Result<(), Refusal>
         ensures { (b : Board Reported) (m : Board Told) → Did Call.Close (done_says result) (world_of self.old (scene R.TokenReader script.old) b m) (world_of self.new (scene R.TokenReader script.new) b m) }
     {
-        let State::Open = self.state else {
-            return Err(Refusal::NotOpen);
-        };
-        if script.current().kind != kind::RCURLY {
-            return Err(Refusal::NoCloseBrace);
-        }
+        ask(self.state == State::Open, Refusal::NotOpen)?;
+        ask(script.current().kind == Kind::RCURLY, Refusal::NoCloseBrace)?;
         script.advance();
         self.state = State::Closed;
         Ok(())
@@ -99,14 +96,10 @@ impl Session {
         reports: &mut List<'_, Report>,
         members: &mut List<'_, MemberRecord>,
     ) -> Result<Reading, Refusal>
-        ensures { Did Call.Member (reading_says result) (world_of self.old (scene S.TokenReader script.old) (report_board reports.old) (member_board members.old)) (world_of self.new (scene S.TokenReader script.new) (report_board reports.new) (member_board members.new)) }
+        ensures { Did Call.Member (reading_says result) (world S.TokenReader self.old script.old reports.old members.old) (world S.TokenReader self.new script.new reports.new members.new) }
     {
-        let State::Open = self.state else {
-            return Err(Refusal::NotOpen);
-        };
-        if members.len() >= members.room() {
-            return Err(Refusal::NoMemberPlace);
-        }
+        ask(self.state == State::Open, Refusal::NotOpen)?;
+        ask(members.len() < members.room(), Refusal::NoMemberPlace)?;
         match read_member(
             script,
             is_typescript(self.language),
@@ -115,8 +108,7 @@ impl Session {
         ) {
             Ok(next) => Ok(keep(next, members)),
             Err(fatal) => {
-                self.state = State::Faulted;
-                self.fatal = Some(fatal);
+                self.state = State::Faulted(fatal);
                 Ok(Reading::Fault(fatal))
             }
         }
@@ -135,7 +127,6 @@ impl Session {
             members: members.len(),
             kept: reports.len(),
             missed: reports.missed(),
-            fatal: self.fatal,
         }
     }
 }

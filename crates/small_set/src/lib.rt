@@ -135,10 +135,6 @@ pub fn count(bits: u16) -> u32
 pub fn next_member<K: SmallKind>(bits: u16, from: u8) -> Option<K>
     ensures { MatchOption result (NoneAmong bits from K.SmallKind.size) (λ k. Lowest bits from (K.SmallKind.numbered k)) }
 {
-    for n in from..K::how_many() {
-        if has(bits, n) {
-            return K::from_number(n);
-        }
-    }
-    None
+    let n = (from..K::how_many()).find(|n| has(bits, *n))?;
+    K::from_number(n)
 }

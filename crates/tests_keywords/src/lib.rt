@@ -14,15 +14,6 @@ use small_set::SmallKind;
 use text::Text;
 use trivia::Trivia;
 
-const NOTHING: Report = Report {
-    rule: 0,
-    start: 0,
-    end: 0,
-    kind: 0,
-    other: 0,
-    allowed: 0,
-};
-
 // As in a member: `const` is allowed, and `static {` ends the list.
 const MEMBER: ListSettings = ListSettings {
     const_allowed: true,
@@ -40,20 +31,10 @@ fn report(rule: u8, start: u32, end: u32, kind: u8, other: u8, allowed: u16) -> 
     }
 }
 
-fn same(a: Report, b: Report) -> bool {
-    a.rule == b.rule
-        && a.start == b.start
-        && a.end == b.end
-        && a.kind == b.kind
-        && a.other == b.other
-        && a.allowed == b.allowed
-}
-
 fn holds(list: &mut List<'_, Report>, wanted: &[Report]) -> bool {
     for (i, w) in wanted.iter().enumerate() {
-        match list.get(i) {
-            Some(r) if same(r, *w) => {}
-            _ => return false,
+        if list.get(i) != Some(*w) {
+            return false;
         }
     }
     list.len() == wanted.len() && list.missed() == 0
@@ -61,7 +42,7 @@ fn holds(list: &mut List<'_, Report>, wanted: &[Report]) -> bool {
 
 // The order reports of the keywords at the front of a text.
 fn orders(text: &[u8], wanted: &[Report]) -> bool {
-    let mut room = [NOTHING; 8];
+    let mut room = [blanks::report(); 8];
     let mut list = List::new(&mut room);
     let mut script = Trivia::new(Text::new(text).reader);
     let _kept = parse_modifiers(&mut script, MEMBER, &mut list);
@@ -70,14 +51,13 @@ fn orders(text: &[u8], wanted: &[Report]) -> bool {
 
 // The kept keywords, by number and last start, and where the reader stands afterwards.
 fn keeps(text: &[u8], settings: ListSettings, wanted: &[(u8, u32)], then: u32) -> bool {
-    let mut room = [NOTHING; 8];
+    let mut room = [blanks::report(); 8];
     let mut list = List::new(&mut room);
     let mut script = Trivia::new(Text::new(text).reader);
     let kept = parse_modifiers(&mut script, settings, &mut list);
     for (i, w) in wanted.iter().enumerate() {
-        match kept.at(i) {
-            Some(m) if m.kind.number() == w.0 && m.start == w.1 => {}
-            _ => return false,
+        if kept.at(i).map(|m| (m.kind.number(), m.start)) != Some(*w) {
+            return false;
         }
     }
     kept.len() == wanted.len() && script.current().start == then
@@ -85,11 +65,11 @@ fn keeps(text: &[u8], settings: ListSettings, wanted: &[(u8, u32)], then: u32) -
 
 // What a check says of the keywords at the front of a text.
 fn checked(text: &[u8], check: ClassCheck, wanted: &[Report]) -> bool {
-    let mut orders_room = [NOTHING; 8];
+    let mut orders_room = [blanks::report(); 8];
     let mut orders = List::new(&mut orders_room);
     let mut script = Trivia::new(Text::new(text).reader);
     let kept = parse_modifiers(&mut script, MEMBER, &mut orders);
-    let mut room = [NOTHING; 8];
+    let mut room = [blanks::report(); 8];
     let mut list = List::new(&mut room);
     run_check(check, kept, &mut list);
     holds(&mut list, wanted)

@@ -7,33 +7,13 @@ use brackets::Brackets;
 use kinds::context::Context;
 use laws::read_body;
 use list::list::List;
-use modifiers::Modifiers;
-use parts::Span;
-use reader::TokenReader;
-use records::{Decorators, Form, MemberRecord};
-use refusal::Refusal;
 use reports::Report;
-use script::ScriptReader;
 use session::state::{Language, Session};
 use text::Text;
 use trivia::Trivia;
 
-fn blank() -> MemberRecord {
-    let place = Span { start: 0, end: 0 };
-    MemberRecord {
-        span: place,
-        modifiers: Modifiers::none(),
-        decorators: Decorators::none(),
-        form: Form::StaticBlock(place),
-    }
-}
-
-// Whether a report has that rule, start and end.
-fn is_wanted(report: Option<Report>, wanted: [u32; 3]) -> bool {
-    match report {
-        Some(r) => r.rule as u32 == wanted[0] && r.start == wanted[1] && r.end == wanted[2],
-        None => false,
-    }
+fn rule_and_place(report: Report) -> [u32; 3] {
+    [u32::from(report.rule), report.start, report.end]
 }
 
 // Whether a body is read whole and earns those reports and no others.
@@ -41,17 +21,17 @@ fn earns(language: Language, bits: u16, text: &[u8], wanted: &[[u32; 3]]) -> boo
     let Some(context) = Context::from_bits(bits) else {
         return false;
     };
-    let mut report_room = [Report::at(0, Span { start: 0, end: 0 }); 16];
-    let mut member_room = [blank(); 16];
+    let mut report_room = [blanks::report(); 16];
+    let mut member_room = [blanks::member(); 16];
     let mut reports = List::new(&mut report_room);
     let mut members = List::new(&mut member_room);
     let mut session = Session::new(language, context);
     let mut script = Brackets::new(Trivia::new(Text::new(text).reader));
-    if read_body(&mut session, &mut script, &mut reports, &mut members).is_some() {
+    if read_body(&mut session, &mut script, &mut reports, &mut members).is_err() {
         return false;
     }
-    for i in 0..wanted.len() {
-        if !is_wanted(reports.get(i), wanted[i]) {
+    for (i, w) in wanted.iter().enumerate() {
+        if reports.get(i).map(rule_and_place) != Some(*w) {
             return false;
         }
     }

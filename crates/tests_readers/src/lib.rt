@@ -7,18 +7,8 @@ use reader::{Ahead, TokenReader};
 use refusal::Refusal;
 use table::table::Table;
 use text::Text;
-use token::{Token, kind};
+use token::{Kind, Token};
 use trivia::Trivia;
-
-fn token(kind: u8, start: u32, end: u32) -> Token {
-    Token {
-        kind,
-        start,
-        end,
-        line_break: false,
-        name: 0,
-    }
-}
 
 fn broken(t: Token) -> Token {
     Token {
@@ -31,22 +21,14 @@ fn named(t: Token, name: u8) -> Token {
     Token { name, ..t }
 }
 
-fn same(t: Token, u: Token) -> bool {
-    t.kind == u.kind
-        && t.start == u.start
-        && t.end == u.end
-        && t.line_break == u.line_break
-        && t.name == u.name
-}
-
 // Whether the reader gives these tokens, and keeps the end of the last one taken.
 fn reads<R: TokenReader>(reader: &mut R, wanted: &[Token]) -> bool {
     for w in wanted {
-        if !same(reader.current(), *w) {
+        if reader.current() != *w {
             return false;
         }
         reader.advance();
-        if w.kind != kind::EOF && reader.last_end() != w.end {
+        if w.kind != Kind::EOF && reader.last_end() != w.end {
             return false;
         }
     }
@@ -64,14 +46,16 @@ fn kept_gives(text: &[u8], wanted: &[Token]) -> bool {
     reads(&mut reader, wanted)
 }
 
-fn number(refused: Option<Refusal>) -> u8 {
-    match refused {
-        Some(refusal) => refusal.number(),
-        None => 0,
-    }
+// A token by its kind's code.
+fn token(code: u8, start: u32, end: u32) -> Token {
+    blanks::token(Kind { code }, start, end)
 }
 
-// The number by which a table is refused, or 0.
+// The number by which something is refused, or 0.
+fn number(refused: Option<Refusal>) -> u8 {
+    refused.map_or(0, Refusal::number)
+}
+
 fn table_refusal(tokens: &[Token]) -> u8 {
     number(Table::new(tokens).refused)
 }
@@ -172,42 +156,54 @@ mod tests {
     #[test]
     fn peeks_stop_at_eof(rt: HostRuntime) {
         let mut r = Trivia::new(Text::new(b"a ; b").reader);
-        assert!(rt; same(r.peek(Ahead::One), token(134, 2, 3)));
-        assert!(rt; same(r.peek(Ahead::Two), token(4, 4, 5)));
-        assert!(rt; same(r.peek(Ahead::Three), token(0, 5, 5)));
+        assert_eq!(rt; r.peek(Ahead::One), token(134, 2, 3));
+        assert_eq!(rt; r.peek(Ahead::Two), token(4, 4, 5));
+        assert_eq!(rt; r.peek(Ahead::Three), token(0, 5, 5));
         r.advance();
         r.advance();
-        assert!(rt; same(r.peek(Ahead::One), token(0, 5, 5)));
-        assert!(rt; same(r.peek(Ahead::Three), token(0, 5, 5)));
+        assert_eq!(rt; r.peek(Ahead::One), token(0, 5, 5));
+        assert_eq!(rt; r.peek(Ahead::Three), token(0, 5, 5));
         r.advance();
         r.advance();
-        assert!(rt; r.last_end() == 5);
+        assert_eq!(rt; r.last_end(), 5);
         let tokens = [token(4, 0, 1), token(0, 9, 9)];
         let t = Table::new(&tokens).reader;
-        assert!(rt; same(t.peek(Ahead::Two), token(0, 9, 9)));
+        assert_eq!(rt; t.peek(Ahead::Two), token(0, 9, 9));
     }
 
     #[test]
     fn questions_of_a_table(rt: HostRuntime) {
-        assert!(rt; table_refusal(&[]) == 1);
-        assert!(rt; table_refusal(&[token(0, 7, 7)]) == 0);
-        assert!(rt; table_refusal(&[token(169, 0, 1), token(0, 1, 1)]) == 2);
-        assert!(rt; table_refusal(&[named(token(4, 0, 1), 3), token(0, 1, 1)]) == 2);
-        assert!(rt; table_refusal(&[named(token(134, 0, 1), 1), token(0, 1, 1)]) == 2);
-        assert!(rt; table_refusal(&[named(token(160, 0, 1), 1), token(0, 1, 1)]) == 0);
-        assert!(rt; table_refusal(&[token(4, 0, 1)]) == 3);
-        assert!(rt; table_refusal(&[token(0, 0, 0), token(0, 1, 1)]) == 3);
-        assert!(rt; table_refusal(&[token(0, 0, 0), token(169, 1, 1)]) == 2);
+        assert_eq!(rt; table_refusal(&[]), 1);
+        assert_eq!(rt; table_refusal(&[token(0, 7, 7)]), 0);
+        assert_eq!(rt; table_refusal(&[token(169, 0, 1), token(0, 1, 1)]), 2);
+        assert_eq!(rt;
+            table_refusal(&[named(token(4, 0, 1), 3), token(0, 1, 1)]),
+            2
+        );
+        assert_eq!(rt;
+            table_refusal(&[named(token(134, 0, 1), 1), token(0, 1, 1)]),
+            2
+        );
+        assert_eq!(rt;
+            table_refusal(&[named(token(160, 0, 1), 1), token(0, 1, 1)]),
+            0
+        );
+        assert_eq!(rt; table_refusal(&[token(4, 0, 1)]), 3);
+        assert_eq!(rt; table_refusal(&[token(0, 0, 0), token(0, 1, 1)]), 3);
+        assert_eq!(rt; table_refusal(&[token(0, 0, 0), token(169, 1, 1)]), 2);
     }
 
     #[test]
     fn places_of_a_table(rt: HostRuntime) {
-        assert!(rt; table_refusal(&[token(4, 1, 1), token(0, 1, 1)]) == 4);
-        assert!(rt; table_refusal(&[token(4, 0, 2), token(0, 1, 1)]) == 4);
-        assert!(rt; table_refusal(&[token(4, 0, 1), token(0, 1, 2)]) == 4);
-        assert!(rt; table_refusal(&[token(87, 0, 5), token(0, 9, 9)]) == 4);
-        assert!(rt; table_refusal(&[token(87, 0, 6), token(0, 9, 9)]) == 0);
-        assert!(rt; table_refusal(&[token(4, 1, 1), token(0, 0, 0), token(4, 2, 3)]) == 3);
+        assert_eq!(rt; table_refusal(&[token(4, 1, 1), token(0, 1, 1)]), 4);
+        assert_eq!(rt; table_refusal(&[token(4, 0, 2), token(0, 1, 1)]), 4);
+        assert_eq!(rt; table_refusal(&[token(4, 0, 1), token(0, 1, 2)]), 4);
+        assert_eq!(rt; table_refusal(&[token(87, 0, 5), token(0, 9, 9)]), 4);
+        assert_eq!(rt; table_refusal(&[token(87, 0, 6), token(0, 9, 9)]), 0);
+        assert_eq!(rt;
+            table_refusal(&[token(4, 1, 1), token(0, 0, 0), token(4, 2, 3)]),
+            3
+        );
         let bad = [token(4, 1, 1), token(0, 1, 1)];
         let mut refused = Table::new(&bad).reader;
         assert!(rt; reads(&mut refused, &[token(0, 0, 0), token(0, 0, 0)]));
@@ -220,19 +216,19 @@ mod tests {
             tokens.push(token(4, i, i + 1))?;
         }
         tokens.push(token(0, 65_535, 65_535))?;
-        assert!(rt; table_refusal(tokens.as_slice()) == 0);
+        assert_eq!(rt; table_refusal(tokens.as_slice()), 0);
         tokens.push(token(0, 65_535, 65_535))?;
-        assert!(rt; table_refusal(tokens.as_slice()) == 1);
+        assert_eq!(rt; table_refusal(tokens.as_slice()), 1);
         Ok(())
     }
 
     #[test]
     fn counts_of_bytes(rt: HostRuntime) -> Result<(), Fail> {
         let mut text = vec![in rt.alloc(); b';'; 65_536]?;
-        assert!(rt; text_refusal(text.as_slice()) == 0);
+        assert_eq!(rt; text_refusal(text.as_slice()), 0);
         text.push(200)?;
-        assert!(rt; text_refusal(text.as_slice()) == 5);
-        assert!(rt; text_refusal(b"a\x80") == 6);
+        assert_eq!(rt; text_refusal(text.as_slice()), 5);
+        assert_eq!(rt; text_refusal(b"a\x80"), 6);
         let mut refused = Text::new(b"a\x80").reader;
         assert!(rt; reads(&mut refused, &[token(0, 0, 0)]));
         Ok(())
@@ -259,6 +255,6 @@ mod tests {
         for _ in 0..65_537u32 {
             list.push(1);
         }
-        assert!(rt; list.missed() == 65_535);
+        assert_eq!(rt; list.missed(), 65_535);
     }
 }

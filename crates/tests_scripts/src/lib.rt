@@ -2,6 +2,7 @@
 
 #![tactic(auto)]
 
+use blanks::token;
 use brackets::Brackets;
 use guard::change::Change;
 use guard::guarding::seen_under;
@@ -13,36 +14,32 @@ use reader::TokenReader;
 use script::ScriptReader;
 use table::table::Table;
 use text::Text;
-use token::{Token, kind};
+use token::{Kind, Token};
 use trivia::Trivia;
 
-fn same(s: Span, start: u32, end: u32) -> bool {
-    s.start == start && s.end == end
-}
-
-fn same_if(s: Option<Span>, wanted: Option<(u32, u32)>) -> bool {
-    match (s, wanted) {
-        (Some(s), Some(w)) => same(s, w.0, w.1),
-        (None, None) => true,
-        _ => false,
+fn span(place: (u32, u32)) -> Span {
+    Span {
+        start: place.0,
+        end: place.1,
     }
 }
 
-// Takes a part, and tells its place, whether it has facts, and the start of the token after it.
-fn taken<S: ScriptReader>(script: &mut S, part: Part) -> (bool, u32, u32, u32) {
+// A part's place, with its facts or without.
+fn told(facts: bool, start: u32, end: u32) -> Result<Span, Span> {
+    let place = span((start, end));
+    if facts { Ok(place) } else { Err(place) }
+}
+
+// Takes a part, and gives what is told of it and the start of the token after it.
+fn taken<S: ScriptReader>(script: &mut S, part: Part) -> (Result<Span, Span>, u32) {
     let answer = script.take_part(part, Context::none());
-    let then = script.current().start;
-    match answer {
-        Ok(s) => (true, s.start, s.end, then),
-        Err(s) => (false, s.start, s.end, then),
-    }
+    (answer, script.current().start)
 }
 
 // A part at the front of a text, through brackets and trivia.
 fn gives(text: &[u8], part: Part, facts: bool, start: u32, end: u32, then: u32) -> bool {
     let mut script = Brackets::new(Trivia::new(Text::new(text).reader));
-    let t = taken(&mut script, part);
-    t.0 == facts && t.1 == start && t.2 == end && t.3 == then
+    taken(&mut script, part) == (told(facts, start, end), then)
 }
 
 fn method(text: &[u8]) -> Option<MethodFacts> {
@@ -53,10 +50,8 @@ fn method(text: &[u8]) -> Option<MethodFacts> {
 // A method's rest is refused here, and the tokens before that are taken.
 fn refused(text: &[u8], start: u32, end: u32) -> bool {
     let mut script = Brackets::new(Trivia::new(Text::new(text).reader));
-    match script.take_method(Context::none()) {
-        Ok(_) => false,
-        Err(s) => same(s, start, end) && script.current().start == start,
-    }
+    let told = script.take_method(Context::none());
+    told.err() == Some(span((start, end))) && script.current().start == start
 }
 
 // The parameters of a method's rest: how many, the first item, the rest and `this`.
@@ -69,9 +64,9 @@ fn parameters(
 ) -> bool {
     match method(text) {
         Some(m) => m.count == count
-            && same_if(m.first_item, item)
-            && same_if(m.rest, rest)
-            && same_if(m.this_param, this),
+            && m.first_item == item.map(span)
+            && m.rest == rest.map(span)
+            && m.this_param == this.map(span),
         None => false,
     }
 }
@@ -89,21 +84,12 @@ fn starts_index(text: &[u8]) -> bool {
     script.starts_index(Context::none())
 }
 
-fn token(kind: u8, start: u32, end: u32) -> Token {
-    Token {
-        kind,
-        start,
-        end,
-        line_break: false,
-        name: 0,
-    }
-}
-
 fn plain(part: Part, facts: bool, start: u32, count: u32) -> PartRecord {
-    let place = Span { start: 90, end: 95 };
-    let result = if facts { Ok(place) } else { Err(place) };
     PartRecord {
-        told: Told::Plain { part, result },
+        told: Told::Plain {
+            part,
+            result: told(facts, 90, 95),
+        },
         start,
         count,
     }
@@ -119,8 +105,7 @@ fn prepared<'a>(
     then: u32,
 ) -> bool {
     let mut script = Prepared::new(tokens, records).reader;
-    let t = taken(&mut script, Part::Expression);
-    t.0 == facts && t.1 == start && t.2 == end && t.3 == then
+    taken(&mut script, Part::Expression) == (told(facts, start, end), then)
 }
 
 // A method's facts, the start of the token after it, and the last end.
@@ -197,18 +182,18 @@ mod tests {
     fn method_rests(rt: HostRuntime) -> Result<(), Fail> {
         let m = method(b"<T>(a): R { x }").ok_or("refused")?;
         assert!(rt;
-            same(m.span, 0, 15)
-                && same_if(m.type_parameters, Some((0, 3)))
-                && same(m.parameters, 3, 6)
+            m.span == span((0, 15))
+                && m.type_parameters == Some(span((0, 3)))
+                && m.parameters == span((3, 6))
         );
         let r = m.return_type.ok_or("no return type")?;
         assert!(rt;
-            same(r.annotation, 6, 9) && same(r.type_span, 8, 9) && m.body_start == Some(10)
+            r.annotation == span((6, 9)) && r.type_span == span((8, 9)) && m.body_start == Some(10)
         );
         let late = method(b"()\n{}").ok_or("refused")?;
-        assert!(rt; late.body_start == Some(3) && same(late.span, 0, 5));
+        assert!(rt; late.body_start == Some(3) && late.span == span((0, 5)));
         let none = method(b"()\nx").ok_or("refused")?;
-        assert!(rt; none.body_start.is_none() && same(none.span, 0, 2));
+        assert!(rt; none.body_start.is_none() && none.span == span((0, 2)));
         let brace = method(b"() }").ok_or("refused")?;
         let end = method(b"()").ok_or("refused")?;
         assert!(rt; brace.body_start.is_none() && end.body_start.is_none());
@@ -220,9 +205,9 @@ mod tests {
     #[test]
     fn prepared_answers(rt: HostRuntime) {
         let ts = [
-            token(kind::IDENT, 4, 5),
-            token(kind::SEMICOLON, 5, 6),
-            token(kind::EOF, 9, 9),
+            token(Kind::IDENT, 4, 5),
+            token(Kind::SEMICOLON, 5, 6),
+            token(Kind::EOF, 9, 9),
         ];
         assert!(rt; prepared(&ts, &[plain(Part::Expression, true, 4, 1)], true, 90, 95, 5));
         assert!(rt;
@@ -279,14 +264,14 @@ mod tests {
     #[test]
     fn both_readers_agree(rt: HostRuntime) -> Result<(), Fail> {
         let ts = [
-            token(kind::LPAREN, 3, 4),
-            token(kind::THIS, 4, 8),
-            token(kind::COMMA, 8, 9),
-            token(kind::IDENT, 10, 11),
-            token(kind::RPAREN, 11, 12),
-            token(kind::SEMICOLON, 12, 13),
-            token(kind::RCURLY, 13, 14),
-            token(kind::EOF, 14, 14),
+            token(Kind::LPAREN, 3, 4),
+            token(Kind::THIS, 4, 8),
+            token(Kind::COMMA, 8, 9),
+            token(Kind::IDENT, 10, 11),
+            token(Kind::RPAREN, 11, 12),
+            token(Kind::SEMICOLON, 12, 13),
+            token(Kind::RCURLY, 13, 14),
+            token(Kind::EOF, 14, 14),
         ];
         let (a, a_then, a_last) = bracket_method(&ts).ok_or("refused")?;
         let records = [PartRecord {
@@ -295,15 +280,12 @@ mod tests {
             count: 6,
         }];
         let (b, b_then, b_last) = prepared_method(&ts, &records).ok_or("refused")?;
-        assert!(rt;
-            same(b.span, a.span.start, a.span.end)
-                && same(b.parameters, a.parameters.start, a.parameters.end)
-        );
+        assert!(rt; b.span == a.span && b.parameters == a.parameters);
         assert!(rt;
             b.count == 1
                 && a.count == 1
-                && same_if(a.this_param, Some((4, 8)))
-                && same_if(b.this_param, Some((4, 8)))
+                && a.this_param == Some(span((4, 8)))
+                && b.this_param == Some(span((4, 8)))
         );
         assert!(rt; a_then == 13 && b_then == 13 && a_last == 13 && b_last == 13);
         Ok(())
@@ -315,15 +297,10 @@ mod tests {
         assert!(rt;
             seen_under(&mut context, Change::Ambient, Err(7), Change::Initializer).is_err()
         );
-        assert!(rt; context.bits() == 0);
+        assert_eq!(rt; context.bits(), 0);
         let seen = seen_under(&mut context, Change::Ambient, Ok(()), Change::Initializer);
-        assert!(rt; context.bits() == 0);
-        match seen {
-            Ok(inner) => {
-                assert!(rt; inner.bits() == 321);
-                Ok(())
-            },
-            Err(_) => Err(Fail::new("left early")),
-        }
+        assert_eq!(rt; context.bits(), 0);
+        assert_eq!(rt; seen.ok().ok_or("left early")?.bits(), 321);
+        Ok(())
     }
 }

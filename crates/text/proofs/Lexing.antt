@@ -79,7 +79,7 @@ first_sized p b bs =
     let l : Lexeme = lexeme_of (b ∷ bs) in
     let some : 0 < l.size = f.some in
     let d : ltb p (p + l.size) ≡ true = lt-ltb p (p + l.size) (omega arith) in
-    let s : spelled (modifier_of l.kind) (token_of p l) ≡ true = f.long p in
+    let s : spelled (modifier_of l.kind.code) (token_of p l) ≡ true = f.long p in
     rw (more_before p b bs, d, s)
 
 eof_sound : (p : ℕ) → sound (token_of p (plain k_eof 0) ∷ []) ≡ true

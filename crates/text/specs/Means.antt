@@ -11,7 +11,7 @@ held_tokens t bs = cond (is_eof t) (t ∷ []) (t ∷ tokens_from t.end (drop t.e
 
 -- the tokens that a reader is yet to give
 abbrev pub text_tokens : Text → List Token
-text_tokens s = held_tokens s.current s.text.now
+text_tokens s = held_tokens s.current s.source.bytes.now
 
 -- the end of the last token taken
 abbrev pub text_last : Text → ℕ

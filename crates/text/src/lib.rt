@@ -3,18 +3,17 @@
 
 #![tactic(auto)]
 
-ghost use Rattle.std.specs.Prelude.{◌≤◌, length};
-
+use source::Source;
 use token::Token;
 
 pub mod laws;
 pub mod reading;
+mod source;
 
 /// The tokens after the current one are read from its end on.
 #[derive(Drop)]
 pub struct Text<'a> {
-    text: &'a [u8],
+    source: Source<'a>,
     current: Token,
     last: u32,
-    ghost short: { length text.now ≤ 65536 },
 }

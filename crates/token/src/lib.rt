@@ -10,16 +10,29 @@ use parts::Span;
 
 pub mod kind;
 
-/// A token by plain numbers: a table that is handed in may hold codes of no kind, which its reader refuses.
+pub use kind::Kind;
+
+/// A token. A table that is handed in may hold a kind or a name code that is none, which its reader refuses.
 #[derive(Clone, Copy, Debug, PartialEq, Eq)]
 pub struct Token {
-    pub kind: u8,
+    pub kind: Kind,
     pub start: u32,
     pub end: u32,
     /// A line break stands between the token before and this one.
     pub line_break: bool,
     /// 1 for `constructor`, 2 for `prototype`, else 0; a string counts by its contents, a private name without its `#`.
     pub name: u8,
+}
+
+impl Token {
+    /// The end of an empty input.
+    pub const EOF_AT_0: Token = Token {
+        kind: Kind::EOF,
+        start: 0,
+        end: 0,
+        line_break: false,
+        name: 0,
+    };
 }
 
 impl From<Token> for Span {

@@ -30,7 +30,7 @@ stripped_ended b (t ∷ ts) h = by (is_eof t) (is_skip t) refl refl (λ c. strip
 
 -- a line break before a token changes nothing of its size
 sized_broken : (b : Bool) (t : Token) → sized (broken b t) ≡ sized t
-sized_broken b t = ap (λ x. cond (is_eof t) (eqb t.start t.end) (ltb t.start t.end && x)) (word (modifier_of t.kind))
+sized_broken b t = ap (λ x. cond (is_eof t) (eqb t.start t.end) (ltb t.start t.end && x)) (word (modifier_of t.kind.code))
   where
     word : (m : Option ModifierKind) → spelled m (broken b t) ≡ spelled m t
     word None = refl

@@ -5,7 +5,7 @@ use Rattle.token.specs.Kinds.{k_skip}
 use Rattle.token.specs.declared.Token.{Token}
 
 abbrev pub is_skip : Token → Bool
-is_skip t = t.kind == k_skip
+is_skip t = t.kind.code == k_skip
 
 -- the token, with the line-break flag if it has it or b holds
 abbrev pub broken : Bool → Token → Token

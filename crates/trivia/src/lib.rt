@@ -10,7 +10,7 @@ ghost use Rattle.trivia.specs.Kept.{without_skips};
 ghost use Rattle.trivia.specs.Means.{trivia_tokens};
 
 use reader::{Ahead, TokenReader};
-use token::{Token, kind};
+use token::{Kind, Token};
 
 /// The reader below, and the next four tokens that are kept; those held after the end of input mean nothing.
 #[derive(Drop)]
@@ -28,13 +28,13 @@ fn next_kept<R: TokenReader>(below: &mut R) -> Token
     loop {
         let t = below.current();
         below.advance();
-        if t.kind != kind::SKIP {
+        if t.kind != Kind::SKIP {
             return Token {
                 line_break: broken || t.line_break,
                 ..t
             };
         }
-        broken = broken || t.line_break;
+        broken |= t.line_break;
     }
 }
 
@@ -45,6 +45,7 @@ impl<R: TokenReader> Trivia<R> {
         ensures last { result.taken ≡ 0 }
         ensures sound { sound (R.TokenReader.tokens below) ≡ true → (trivia_tokens R.TokenReader.tokens result ≡ without_skips false (R.TokenReader.tokens below)) × (sound (trivia_tokens R.TokenReader.tokens result) ≡ true) }
     {
+        // Not `from_fn`: after it a proof knows nothing of what its closure took from `below`.
         let first = next_kept(&mut below);
         let second = next_kept(&mut below);
         let third = next_kept(&mut below);
@@ -67,20 +68,15 @@ impl<R: TokenReader> TokenReader for Trivia<R> {
     }
 
     fn peek(&self, d: Ahead) -> Token {
-        let h = self.held;
-        if h[0].kind == kind::EOF {
-            return h[0];
+        let [now, one, two, three] = self.held;
+        match d {
+            _ if now.kind == Kind::EOF => now,
+            Ahead::One => one,
+            _ if one.kind == Kind::EOF => one,
+            Ahead::Two => two,
+            _ if two.kind == Kind::EOF => two,
+            Ahead::Three => three,
         }
-        if let Ahead::One = d {
-            return h[1];
-        }
-        if h[1].kind == kind::EOF {
-            return h[1];
-        }
-        if let Ahead::Two = d {
-            return h[2];
-        }
-        if h[2].kind == kind::EOF { h[2] } else { h[3] }
     }
 
     fn last_end(&self) -> u32 {
@@ -88,11 +84,11 @@ impl<R: TokenReader> TokenReader for Trivia<R> {
     }
 
     fn advance(&mut self) {
-        let h = self.held;
-        if h[0].kind != kind::EOF {
-            self.taken = h[0].end;
+        let [now, one, two, three] = self.held;
+        if now.kind != Kind::EOF {
             let fourth = next_kept(&mut self.below);
-            self.held = [h[1], h[2], h[3], fourth];
+            self.held = [one, two, three, fourth];
+            self.taken = now.end;
         }
     }
 }

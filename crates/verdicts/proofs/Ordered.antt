@@ -1,14 +1,18 @@
 -- The rules of the order, from its definition.
-use Rattle.std.proofs.Common.{◌≡◌, ℕ, ◌<◌, Bool, true, false, cond, ◌&&◌, eqb, ltb, List, [], ◌∷◌, Some, None, filter, Option, sym, refl, ap, ◌∙◌, ⊎_elim, arith}
+use Rattle.std.proofs.Common.{◌≡◌, ℕ, ◌<◌, Bool, true, false, cond, ◌&&◌, eqb, ltb, List, [], ◌∷◌, Some, None, filter, Option, sym, refl, ap, ◌∙◌, ap₂, ⊎_elim, arith}
 use Rattle.std.specs.List.{list_all}
 use Rattle.std.proofs.lemmas.Bool.{and_parts, and_from, and_left, and_right, or_cases, or_left, or_right, cases_Bool, not-true, not-false, eqb-true, eq-eqb, ltb-true, both_ways, true≢false}
 use Rattle.small_set.specs.Members.{member, NoneAmong, Lowest}
 use Rattle.kinds.specs.Modifiers.{modifier_number}
 use Rattle.kinds.specs.declared.modifier_kind.ModifierKind.{ModifierKind}
 use Rattle.verdicts.specs.declared.order.OrderVerdict.{OrderVerdict}
-use Rattle.verdicts.specs.Verdicts.{accessibilities, every_kind, same_kind, any_of, among, forbids, is_accessibility, verdict_of}
-use Rattle.verdicts.specs.Orders.{silent, naming, offenders, some_give, said_of, order_of, NoneForbidden, Gets, LowestForbidden, OrderRules, OrderStands}
-use Rattle.verdicts.proofs.Pairs.{numbers, same_kind-true, among_passes, any_from, any_some, both_accessibilities, repetition, forbidden_by}
+use Rattle.verdicts.specs.Verdicts.{accessibilities, every_kind, same_kind, any_of, among, forbids, is_accessibility, rule_of, rule_or_0, verdict_of}
+use Rattle.rules.specs.Rules.{rule_number}
+use Rattle.rules.specs.declared.Rule.{Rule}
+use Rattle.rules.specs.declared.Rule.TheVariants.{AccessibilityAlreadySeen, AlreadySeen}
+use Rattle.verdicts.specs.Orders.{silent, naming, naming_if, offenders, some_give, said_of, order_of, NoneForbidden, Gets, LowestForbidden, OrderRules, OrderStands}
+use Rattle.kinds.proofs.Numbered.{numbers, same_kind_true}
+use Rattle.verdicts.proofs.Pairs.{among_passes, any_from, any_some, both_accessibilities, repetition, forbidden_by, rule_given}
 
 -- ---- what passes a test
 kept_among : (p : ModifierKind → Bool) (ks : List ModifierKind) (k : ModifierKind) → among k ks ≡ true → p k ≡ true → among k (filter p ks) ≡ true
@@ -17,7 +21,7 @@ kept_among p (x ∷ xs) k a e = ⊎_elim here (λ s. step (p x) (kept_among p xs
   where
     here : same_kind x k ≡ true → among k (cond (p x) (x ∷ filter p xs) (filter p xs)) ≡ true
     here s =
-        ap (λ b. among k (cond b (x ∷ filter p xs) (filter p xs))) (ap p (same_kind-true x k s) ∙ e)
+        ap (λ b. among k (cond b (x ∷ filter p xs) (filter p xs))) (ap p (same_kind_true x k s) ∙ e)
         ∙ or_left (same_kind x k) (among k (filter p xs)) s
 
     step : (b : Bool) → among k (filter p xs) ≡ true → among k (cond b (x ∷ filter p xs) (filter p xs)) ≡ true
@@ -50,7 +54,7 @@ kept_first p (x ∷ xs) r k a e low = ⊎_elim here (λ s. there s (kept_first p
 
     here : same_kind x k ≡ true → (rest : List ModifierKind) × (filter p (x ∷ xs) ≡ k ∷ rest)
     here s =
-        let q = same_kind-true x k s in
+        let q = same_kind_true x k s in
         (filter p xs, ap (λ b. cond b (x ∷ filter p xs) (filter p xs)) (ap p q ∙ e) ∙ ap (λ y. y ∷ filter p xs) q)
 
     there : among k xs ≡ true → (rest : List ModifierKind) × (filter p xs ≡ k ∷ rest) → (rest : List ModifierKind) × (filter p (x ∷ xs) ≡ k ∷ rest)
@@ -59,28 +63,34 @@ kept_first p (x ∷ xs) r k a e low = ⊎_elim here (λ s. there s (kept_first p
         (m.0, ap (λ b. cond b (x ∷ filter p xs) (filter p xs)) (low x up) ∙ m.1)
 
 -- ---- what is said where just some are forbidden
-some_said : (later : ModifierKind) (ks : List ModifierKind) (k : ModifierKind) → among k ks ≡ true → said_of later ks ≡ None → ⊥
-some_said later [] k a e = both_ways false refl a
-some_said later (x ∷ xs) k a e = true≢false (ap told e)
+abbrev chosen : Bool → Bool → Option OrderVerdict → Option OrderVerdict
+chosen a b v = cond a (Some (silent AccessibilityAlreadySeen)) (cond b (Some (silent AlreadySeen)) v)
+
+some_said : (later x : ModifierKind) (xs : List ModifierKind) → forbids later x ≡ true → said_of later (x ∷ xs) ≡ None → ⊥
+some_said later x xs h e =
+    let g = rule_given later x h in
+    by (some_give 1 later (x ∷ xs)) (some_give 2 later (x ∷ xs)) g.0
+    (sym (ap (λ o. chosen (some_give 1 later (x ∷ xs)) (some_give 2 later (x ∷ xs)) (naming_if o x)) g.1) ∙ e)
   where
     told : Option OrderVerdict → Bool
     told None = false
     told (Some v) = true
 
-said_second : (later : ModifierKind) (ks : List ModifierKind) (k : ModifierKind) → among k ks ≡ true → some_give 1 later ks ≡ true → said_of later ks ≡ Some (silent 1)
+    by : (a b : Bool) (r : Rule) → chosen a b (Some (naming r x)) ≡ None → ⊥
+    by true b r f = true≢false (ap told f)
+    by false true r f = true≢false (ap told f)
+    by false false r f = true≢false (ap told f)
+
+said_second : (later : ModifierKind) (ks : List ModifierKind) (k : ModifierKind) → among k ks ≡ true → some_give 1 later ks ≡ true → said_of later ks ≡ Some (silent AccessibilityAlreadySeen)
 said_second later [] k a g = absurd (both_ways false refl a)
-said_second later (x ∷ xs) k a g = ap (λ b. Some (cond b (silent 1) (cond (some_give 2 later (x ∷ xs)) (silent 2) (naming (verdict_of later x) x)))) g
+said_second later (x ∷ xs) k a g = ap (λ b. chosen b (some_give 2 later (x ∷ xs)) (naming_if (rule_of later x) x)) g
 
-said_again : (later : ModifierKind) (ks : List ModifierKind) (k : ModifierKind) → among k ks ≡ true → some_give 1 later ks ≡ false → some_give 2 later ks ≡ true → said_of later ks ≡ Some (silent 2)
+said_again : (later : ModifierKind) (ks : List ModifierKind) (k : ModifierKind) → among k ks ≡ true → some_give 1 later ks ≡ false → some_give 2 later ks ≡ true → said_of later ks ≡ Some (silent AlreadySeen)
 said_again later [] k a f g = absurd (both_ways false refl a)
-said_again later (x ∷ xs) k a f g =
-    ap (λ b. Some (cond b (silent 1) (cond (some_give 2 later (x ∷ xs)) (silent 2) (naming (verdict_of later x) x)))) f
-    ∙ ap (λ b. Some (cond b (silent 2) (naming (verdict_of later x) x))) g
+said_again later (x ∷ xs) k a f g = ap₂ (λ b c. chosen b c (naming_if (rule_of later x) x)) f g
 
-said_lowest : (later k : ModifierKind) (ks : List ModifierKind) → some_give 1 later (k ∷ ks) ≡ false → some_give 2 later (k ∷ ks) ≡ false → said_of later (k ∷ ks) ≡ Some (naming (verdict_of later k) k)
-said_lowest later k ks f g =
-    ap (λ b. Some (cond b (silent 1) (cond (some_give 2 later (k ∷ ks)) (silent 2) (naming (verdict_of later k) k)))) f
-    ∙ ap (λ b. Some (cond b (silent 2) (naming (verdict_of later k) k))) g
+said_lowest : (later k : ModifierKind) (ks : List ModifierKind) → some_give 1 later (k ∷ ks) ≡ false → some_give 2 later (k ∷ ks) ≡ false → said_of later (k ∷ ks) ≡ naming_if (rule_of later k) k
+said_lowest later k ks f g = ap₂ (λ b c. chosen b c (naming_if (rule_of later k) k)) f g
 
 -- ---- the rules
 module _ (kept : ModifierKind → Bool) (later : ModifierKind) where
@@ -134,9 +144,27 @@ module _ (kept : ModifierKind → Bool) (later : ModifierKind) where
 
   pub again_none : (kept later && eqb (verdict_of later later) 2) ≡ false → Gets 2 kept later → ⊥
   again_none h g =
-      let q = same_kind-true later g.0 (repetition later g.0 g.2).0 in
+      let q = same_kind_true later g.0 (repetition later g.0 g.2).0 in
       both_ways (kept later && eqb (verdict_of later later) 2) h
       (and_from (kept later) (eqb (verdict_of later later) 2) (ap kept q ∙ g.1) (eq-eqb (verdict_of later later) 2 (ap (verdict_of later) q ∙ g.2)))
+
+  never_none : (ks : List ModifierKind) (k : ModifierKind) → list_all offends ks ≡ true → among k ks ≡ true → said_of later ks ≡ None → ⊥
+  never_none [] k h a e = both_ways false refl a
+  never_none (x ∷ xs) k h a e =
+      some_said later x xs (and_parts (kept x) (forbids later x) (and_parts (offends x) (list_all offends xs) h).0).1 e
+
+  number : (k : ModifierKind) (r : Rule) → rule_of later k ≡ Some r → rule_number r ≡ verdict_of later k
+  unfolding verdict_of
+  number k r e = sym (ap rule_or_0 e)
+
+  -- the lowest of the forbidden kinds decides, where none gets 1 or 2
+  pub lowest_said : (k : ModifierKind) → LowestForbidden kept later k → (Gets 1 kept later → ⊥) → (Gets 2 kept later → ⊥) → order_of kept later ≡ naming_if (rule_of later k) k
+  unfolding order_of
+  lowest_said k h f g =
+      let m = kept_first offends every_kind refl k (numbers k).2 (and_from (kept k) (forbids later k) h.0 h.1)
+      (λ j l. ⊎_elim (λ t. and_right (kept j) (forbids later j) (h.2 j l t)) (and_left (kept j) (forbids later j)) (cases_Bool (kept j))) in
+      ap (said_of later) m.1
+      ∙ said_lowest later k m.0 (ap (some_give 1 later) (sym m.1) ∙ given_none 1 f) (ap (some_give 2 later) (sym m.1) ∙ given_none 2 g)
 
   pub order_rules : OrderRules kept later
   unfolding order_of
@@ -147,7 +175,7 @@ module _ (kept : ModifierKind → Bool) (later : ModifierKind) where
             (kept_none offends (λ k. ⊎_elim (λ t. and_right (kept k) (forbids later k) (h k t)) (and_left (kept k) (forbids later k)) (cases_Bool (kept k)))
             every_kind);
         only_then = λ e k t.
-            ⊎_elim (λ f. absurd (some_said later (offenders kept later) k (among_offenders k t f) e)) (λ f. f)
+            ⊎_elim (λ f. absurd (never_none (offenders kept later) k (kept_pass offends every_kind) (among_offenders k t f) e)) (λ f. f)
             (cases_Bool (forbids later k));
         second = λ g.
             said_second later (offenders kept later) g.0
@@ -156,11 +184,7 @@ module _ (kept : ModifierKind → Bool) (later : ModifierKind) where
             said_again later (offenders kept later) g.0
             (among_offenders g.0 g.1 (given_forbidden 2 refl g.0 g.2))
             (given_none 1 (not_both g)) (gives 2 refl g);
-        lowest = λ k h f g.
-            let m = kept_first offends every_kind refl k (numbers k).2 (and_from (kept k) (forbids later k) h.0 h.1)
-            (λ j l. ⊎_elim (λ t. and_right (kept j) (forbids later j) (h.2 j l t)) (and_left (kept j) (forbids later j)) (cases_Bool (kept j))) in
-            ap (said_of later) m.1
-            ∙ said_lowest later k m.0 (ap (some_give 1 later) (sym m.1) ∙ given_none 1 f) (ap (some_give 2 later) (sym m.1) ∙ given_none 2 g);
+        lowest = λ k h f g. let r = rule_given later k h.1 in (r.0, number k r.0 r.1, lowest_said k h f g ∙ ap (λ o. naming_if o k) r.1);
       }
 
 pub order_stands_lem : OrderStands

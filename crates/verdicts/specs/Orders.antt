@@ -1,16 +1,23 @@
 -- What is said of a keyword after those that are kept.
-use Rattle.std.specs.Prelude.{◌≡◌, ℕ, ◌<◌, Bool, true, false, cond, ◌&&◌, List, [], ◌∷◌, Some, None, filter, Option, nat_eq}
+use Rattle.std.specs.Prelude.{◌≡◌, ℕ, ◌<◌, Bool, true, false, cond, ◌&&◌, List, [], ◌∷◌, Some, None, filter, Option, ◌==◌}
 use Rattle.kinds.specs.Modifiers.{modifier_number}
 use Rattle.kinds.specs.declared.modifier_kind.ModifierKind.{ModifierKind}
+use Rattle.rules.specs.Rules.{rule_number}
+use Rattle.rules.specs.declared.Rule.{Rule}
+use Rattle.rules.specs.declared.Rule.TheVariants.{AccessibilityAlreadySeen, AlreadySeen}
 use Rattle.verdicts.specs.declared.order.OrderVerdict.{OrderVerdict}
-use Rattle.verdicts.specs.Verdicts.{any_of, every_kind, forbids, verdict_of}
+use Rattle.verdicts.specs.Verdicts.{any_of, every_kind, forbids, rule_of, verdict_of}
 
 -- a rule that names no kept kind, and one that does
-abbrev pub silent : ℕ → OrderVerdict
+abbrev pub silent : Rule → OrderVerdict
 silent rule = record { rule = rule; other = None }
 
-abbrev pub naming : ℕ → ModifierKind → OrderVerdict
+abbrev pub naming : Rule → ModifierKind → OrderVerdict
 naming rule k = record { rule = rule; other = Some k }
+
+abbrev pub naming_if : Option Rule → ModifierKind → Option OrderVerdict
+naming_if None k = None
+naming_if (Some rule) k = Some (naming rule k)
 
 -- the kept kinds that are forbidden before a kind, the lowest number first
 abbrev pub offenders : (ModifierKind → Bool) → ModifierKind → List ModifierKind
@@ -18,14 +25,14 @@ offenders kept later = filter (λ k. kept k && forbids later k) every_kind
 
 -- whether one of some kinds gives a verdict
 abbrev pub some_give : ℕ → ModifierKind → List ModifierKind → Bool
-some_give rule later = any_of (λ k. nat_eq (verdict_of later k) rule)
+some_give rule later = any_of (λ k. verdict_of later k == rule)
 
 -- what is said of a kind where just these are forbidden before it
 abbrev pub said_of : ModifierKind → List ModifierKind → Option OrderVerdict
 said_of later [] = None
 said_of later (k ∷ ks) =
-    Some
-    (cond (some_give 1 later (k ∷ ks)) (silent 1) (cond (some_give 2 later (k ∷ ks)) (silent 2) (naming (verdict_of later k) k)))
+    cond (some_give 1 later (k ∷ ks)) (Some (silent AccessibilityAlreadySeen))
+    (cond (some_give 2 later (k ∷ ks)) (Some (silent AlreadySeen)) (naming_if (rule_of later k) k))
 
 -- what is said of a kind after the kept ones: nothing if none is forbidden, rule 1 or 2 if one of them gives it, and
 -- otherwise the verdict of the lowest, which is named
@@ -51,9 +58,9 @@ LowestForbidden kept later k =
 pub record OrderRules (kept : ModifierKind → Bool) (later : ModifierKind) : Type 0 where
   pub nothing : NoneForbidden kept later → order_of kept later ≡ None
   pub only_then : order_of kept later ≡ None → NoneForbidden kept later
-  pub second : Gets 1 kept later → order_of kept later ≡ Some (silent 1)
-  pub again : Gets 2 kept later → order_of kept later ≡ Some (silent 2)
-  pub lowest : (k : ModifierKind) → LowestForbidden kept later k → (Gets 1 kept later → ⊥) → (Gets 2 kept later → ⊥) → order_of kept later ≡ Some (naming (verdict_of later k) k)
+  pub second : Gets 1 kept later → order_of kept later ≡ Some (silent AccessibilityAlreadySeen)
+  pub again : Gets 2 kept later → order_of kept later ≡ Some (silent AlreadySeen)
+  pub lowest : (k : ModifierKind) → LowestForbidden kept later k → (Gets 1 kept later → ⊥) → (Gets 2 kept later → ⊥) → (r : Rule) × (rule_number r ≡ verdict_of later k) × (order_of kept later ≡ Some (naming r k))
 
 abbrev pub OrderStands : Type 0
 OrderStands = (kept : ModifierKind → Bool) (later : ModifierKind) → OrderRules kept later

@@ -1,16 +1,11 @@
 -- Which keyword is forbidden before which, and what is said of it.
-use Rattle.std.specs.Prelude.{ℕ, ◌+◌, ◌^◌, Bool, false, cond, not, ◌&&◌, ◌||◌, List, [], ◌∷◌}
-pub use Rattle.kinds.specs.Modifiers.{every_kind, kind_at, modifier_number, same_kind}
+use Rattle.std.specs.Prelude.{ℕ, ◌+◌, ◌^◌, Bool, cond, not, ◌&&◌, ◌||◌, List, [], ◌∷◌, Some, None, Option, ◌==◌}
+pub use Rattle.kinds.specs.Modifiers.{among, any_of, every_kind, kind_at, modifier_number, same_kind}
 use Rattle.kinds.specs.declared.modifier_kind.ModifierKind.{ModifierKind}
 use Rattle.kinds.specs.declared.modifier_kind.ModifierKind.TheVariants.{Declare, Private, Protected, Public, Static, Readonly, Abstract, Override, Async, Const, In, Out, Default, Accessor, Export}
-
--- whether one of some kinds passes a test
-abbrev pub any_of : (ModifierKind → Bool) → List ModifierKind → Bool
-any_of test [] = false
-any_of test (k ∷ ks) = test k || any_of test ks
-
-abbrev pub among : ModifierKind → List ModifierKind → Bool
-among k = any_of (λ x. same_kind x k)
+use Rattle.rules.specs.Rules.{rule_number}
+use Rattle.rules.specs.declared.Rule.{Rule}
+use Rattle.rules.specs.declared.Rule.TheVariants.{AccessibilityAlreadySeen, AlreadySeen, WithOtherModifier, InAmbientContext, MustPrecede}
 
 -- the kinds that may not stand before a kind
 abbrev pub forbidden_before : ModifierKind → List ModifierKind
@@ -57,11 +52,27 @@ excludes later earlier =
     || (are_both Private Abstract later earlier
     || (are_both Async Abstract later earlier || (same_kind later Override && same_kind earlier Declare)))
 
--- what is said of the later kind: 0 nothing, 1 a second accessibility, 2 a repetition, 3 not with the earlier kind,
--- 4 not in an ambient context, 5 it must stand before the earlier kind
+-- the rule that is said of the later kind, if one is
+unfoldable pub rule_of : ModifierKind → ModifierKind → Option Rule
+rule_of later earlier =
+    cond (not (forbids later earlier)) None
+    (cond (is_accessibility later && is_accessibility earlier) (Some AccessibilityAlreadySeen)
+    (cond (same_kind later earlier) (Some AlreadySeen)
+    (cond (excludes later earlier) (Some WithOtherModifier)
+    (cond (same_kind later Declare && same_kind earlier Override) (Some InAmbientContext) (Some MustPrecede)))))
+
+-- a rule by its number, 0 for none
+abbrev pub rule_or_0 : Option Rule → ℕ
+rule_or_0 None = 0
+rule_or_0 (Some r) = rule_number r
+
+-- what is said of the later kind, by number: 0 where nothing is
 unfoldable pub verdict_of : ModifierKind → ModifierKind → ℕ
-verdict_of later earlier =
-    cond (not (forbids later earlier)) 0
-    (cond (is_accessibility later && is_accessibility earlier) 1
-    (cond (same_kind later earlier) 2
-    (cond (excludes later earlier) 3 (cond (same_kind later Declare && same_kind earlier Override) 4 5))))
+verdict_of later earlier = rule_or_0 (rule_of later earlier)
+
+-- the rule of the order with a number, if there is one
+abbrev pub rule_at : ℕ → Option Rule
+rule_at n =
+    cond (n == 1) (Some AccessibilityAlreadySeen)
+    (cond (n == 2) (Some AlreadySeen)
+    (cond (n == 3) (Some WithOtherModifier) (cond (n == 4) (Some InAmbientContext) (cond (n == 5) (Some MustPrecede) None))))

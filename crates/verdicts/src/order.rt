@@ -1,23 +1,26 @@
 ghost use Rattle.kinds.specs.Modifiers.{modifier_number};
 ghost use Rattle.small_set.specs.Members.{member};
 ghost use Rattle.verdicts.specs.Orders.{OrderStands, order_of, silent};
-ghost use Rattle.verdicts.specs.Verdicts.{accessibilities, any_of, verdict_of};
-ghost use Rattle.std.specs.Prelude.{◌≡◌, ◌&&◌, ◌==◌};
+ghost use Rattle.verdicts.specs.Verdicts.{accessibilities, any_of, rule_of, verdict_of};
+ghost use Rattle.std.specs.Prelude.{◌≡◌, ◌&&◌, ◌==◌, ◌↔◌, IsTrue, Some, true};
 
 use crate::tables::{row, verdict};
 use kinds::{ModifierKind, ModifierKinds};
+use rules::Rule;
 
-const TWO_ACCESSIBILITIES: u8 = 1;
-
-const REPEATED: u8 = 2;
+const ACCESSIBILITIES: [ModifierKind; 3] = [
+    ModifierKind::Private,
+    ModifierKind::Protected,
+    ModifierKind::Public,
+];
 
 const STANDS: u8 = 0;
 
 /// What is said of a keyword by the kept ones before it: the rule, and the kept kind where the
 /// rule names one.
-#[derive(Clone, Copy)]
+#[derive(Clone, Copy, Debug, PartialEq, Eq)]
 pub struct OrderVerdict {
-    pub rule: u8,
+    pub rule: Rule,
     pub other: Option<ModifierKind>,
 }
 
@@ -26,23 +29,21 @@ pub struct OrderVerdict {
 pub fn order_verdict(kept: ModifierKinds, later: ModifierKind) -> Option<OrderVerdict>
     ensures { result ≡ order_of (λ k. member kept.bits (modifier_number k)) later }
 {
-    let Some(lowest) = kept.intersection(row(later)).next(0) else {
-        return None;
-    };
+    let lowest = kept.intersection(row(later)).next(0)?;
     if two_accessibilities(kept, later) {
-        return Some(without_other(TWO_ACCESSIBILITIES));
+        return Some(without_other(Rule::AccessibilityAlreadySeen));
     }
     // Only the kind itself can give that verdict.
-    if gives(REPEATED, kept, later, later) {
-        return Some(without_other(REPEATED));
+    if gives(Rule::AlreadySeen, kept, later, later) {
+        return Some(without_other(Rule::AlreadySeen));
     }
-    Some(OrderVerdict {
-        rule: verdict(later, lowest),
+    verdict(later, lowest).map(|rule| OrderVerdict {
+        rule,
         other: Some(lowest),
     })
 }
 
-fn without_other(rule: u8) -> OrderVerdict
+fn without_other(rule: Rule) -> OrderVerdict
     ensures { result ≡ silent rule }
 {
     OrderVerdict { rule, other: None }
@@ -52,19 +53,19 @@ fn without_other(rule: u8) -> OrderVerdict
 fn two_accessibilities(kept: ModifierKinds, later: ModifierKind) -> bool
     ensures { result ≡ any_of (λ k. member kept.bits (modifier_number k) && verdict_of later k == 1) accessibilities }
 {
-    let private = gives(TWO_ACCESSIBILITIES, kept, later, ModifierKind::Private);
-    let protected = gives(TWO_ACCESSIBILITIES, kept, later, ModifierKind::Protected);
-    let public = gives(TWO_ACCESSIBILITIES, kept, later, ModifierKind::Public);
-    private || protected || public
+    ACCESSIBILITIES
+        .iter()
+        .any(|k| gives(Rule::AccessibilityAlreadySeen, kept, later, *k))
 }
 
 // Whether `earlier` is kept and gives the verdict `rule`.
-fn gives(rule: u8, kept: ModifierKinds, later: ModifierKind, earlier: ModifierKind) -> bool
-    ensures { result ≡ (member kept.bits (modifier_number earlier) && verdict_of later earlier == rule) }
+fn gives(rule: Rule, kept: ModifierKinds, later: ModifierKind, earlier: ModifierKind) -> bool
+    ensures { IsTrue result ↔ ((member kept.bits (modifier_number earlier) ≡ true) × (rule_of later earlier ≡ Some rule)) }
 {
-    kept.contains(earlier) && verdict(later, earlier) == rule
+    kept.contains(earlier) && verdict(later, earlier) == Some(rule)
 }
 
+// It answers a constant, since the law stands in its contract.
 /// What the definition of an order verdict comes to, said without it.
 pub fn order_stands() -> u8
     ensures stands { result ≡ 0 }

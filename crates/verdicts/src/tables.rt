@@ -1,9 +1,10 @@
 ghost use Rattle.std.specs.Prelude.{◌≡◌, ◌^◌, ◌<◌};
 ghost use Rattle.kinds.specs.Modifiers.{modifier_number};
 ghost use Rattle.small_set.specs.Members.{member};
-ghost use Rattle.verdicts.specs.Verdicts.{forbidden_before, forbids, kind_at, packed, verdict_of};
+ghost use Rattle.verdicts.specs.Verdicts.{forbidden_before, forbids, kind_at, packed, rule_at, rule_of, rule_or_0, verdict_of};
 
 use kinds::{ModifierKind, ModifierKinds};
+use rules::Rule;
 use small_set::SmallKind;
 
 const KINDS: usize = 15;
@@ -60,10 +61,7 @@ fn bits_at(later: usize) -> u16
 pub fn row(later: ModifierKind) -> ModifierKinds
     ensures { (k : ModifierKind) → member result.bits (modifier_number k) ≡ forbids later k }
 {
-    match ModifierKinds::from_bits(bits_at(later.number() as usize)) {
-        Some(kinds) => kinds,
-        None => unreachable(),
-    }
+    ModifierKinds::from_bits(bits_at(later.number() as usize)).unwrap()
 }
 
 // The verdict of the kinds with two numbers.
@@ -74,9 +72,24 @@ fn verdict_at(later: usize, earlier: usize) -> u8
     VERDICTS[later * KINDS + earlier]
 }
 
-/// What is said of `later` where `earlier` stands before it: 0 is nothing.
-pub fn verdict(later: ModifierKind, earlier: ModifierKind) -> u8
-    ensures { result ≡ verdict_of later earlier }
+/// What is said of `later` where `earlier` stands before it, if anything.
+pub fn verdict(later: ModifierKind, earlier: ModifierKind) -> Option<Rule>
+    ensures rule { result ≡ rule_of later earlier }
+    ensures number { rule_or_0 result ≡ verdict_of later earlier }
 {
-    verdict_at(later.number() as usize, earlier.number() as usize)
+    rule_at(verdict_at(later.number() as usize, earlier.number() as usize))
+}
+
+// The rule that a number of the table stands for: the table is constant and holds a byte for each pair.
+fn rule_at(n: u8) -> Option<Rule>
+    ensures { result ≡ rule_at n }
+{
+    match n {
+        1 => Some(Rule::AccessibilityAlreadySeen),
+        2 => Some(Rule::AlreadySeen),
+        3 => Some(Rule::WithOtherModifier),
+        4 => Some(Rule::InAmbientContext),
+        5 => Some(Rule::MustPrecede),
+        _ => None,
+    }
 }

@@ -1,5 +1,5 @@
 use Rattle.std.proofs.Common.{◌≡◌, true, false, is_some, ap, ◌∙◌}
-use Rattle.gate.proofs.Judging.{means_lexed, read, scene_of_lem, unread}
+use Rattle.gate.proofs.Judging.{as_refused, means_lexed, read, scene_of_lem, unread}
 use Rattle.gate.specs.Verdicts.{tokens_of}
 use Rattle.refusal.proofs.Numbered.{some_number}
 use Rattle.refusal.specs.Questions.{first_no}
@@ -28,4 +28,4 @@ returns c =
     let below : text_tokens opened.result.reader ≡ lexed bs = opened.ensures.tokens ∙ means_lexed bs z in
     let above : trivia_tokens text_tokens c.new-script.result.below ≡ tokens_of bs =
     c.new-script.ensures.tokens ∙ (c.new-tokens.ensures.sound opened.ensures.sound).0 ∙ ap (without_skips false) below in
-    read bs _ c.none.ensures c.new-session.ensures (scene_of_lem bs above c.new-script.ensures.last) z c.read_body-refusal.ensures (c.standing-2.ensures.told _)
+    read bs _ c.none.ensures c.new-session.ensures (as_refused c.read_body.result c.err-refusal.ensures.value) (scene_of_lem bs above c.new-script.ensures.last) z c.read_body.ensures (c.standing-2.ensures.told _)

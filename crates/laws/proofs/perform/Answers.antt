@@ -1,11 +1,8 @@
-use Rattle.std.proofs.Common.{get_or, take_all}
+use Rattle.std.proofs.Common.{get_or}
 use Rattle.std.proofs.lemmas.List.{take_more}
-use Rattle.laws.proofs.Chains.{performed_more, performed_none}
+use Rattle.laws.proofs.Chains.{performed_more}
 use Rattle.session.specs.declared.state.Call.TheVariants.{Open}
 use Rattle.laws.proofs.perform.Goals as goal
-
-pub loop-call-init : goal.loop-call-init
-loop-call-init g c = performed_none _ _
 
 pub loop-call-preserved : goal.loop-call-preserved
 loop-call-preserved g c =
@@ -13,6 +10,3 @@ loop-call-preserved g c =
     let i = c.loop-call.call-index in
     rw (take_more calls i Open c.loop-call-test.true)
     (performed_more (get_or calls i Open) c.loop-call.invariant c.make-outcome.ensures c.push.ensures.noted)
-
-pub returns : goal.returns
-returns g c = rw (take_all _ _ c.loop-call-test.false) at c.loop-call.invariant

@@ -24,7 +24,7 @@ impl<'a, T: Copy> List<'a, T> {
         ensures value { result ≡ length (listed self.old) }
         ensures same { self.new ≡ self.old }
     {
-        return self.len;
+        self.as_slice().len()
     }
 
     /// How many it can hold.
@@ -48,13 +48,17 @@ impl<'a, T: Copy> List<'a, T> {
         ensures value { result ≡ slice_get (listed self.old) i }
         ensures same { self.new ≡ self.old }
     {
-        if i < self.len {
-            Some(self.items[i])
-        } else {
-            None
-        }
+        self.as_slice().get(i).copied()
     }
 
+    /// The elements, in the order in which they came.
+    pub fn as_slice(&self) -> &[T]
+        ensures { result.now ≡ listed self.now }
+    {
+        &self.items[..self.len]
+    }
+
+    // A flag, since what finds no place is counted here and nothing is left to tell.
     /// Adds an element at the end and answers true, or counts it as missed where no place is free.
     pub fn push(&mut self, x: T) -> bool
         ensures answer { result ≡ nat_lt (length (listed self.old)) (room self.old) }
@@ -72,6 +76,7 @@ impl<'a, T: Copy> List<'a, T> {
     }
 }
 
+// It answers a constant, since the law stands in its contract.
 /// Noting two rows of elements in turn is noting them joined.
 pub fn noting_joins<T: Copy>() -> u8
     ensures value { result ≡ 0 }

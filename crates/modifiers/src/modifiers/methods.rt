@@ -14,6 +14,12 @@ const KINDS: usize = 15;
 
 const NONE: u8 = 0;
 
+const ACCESSIBILITIES: [ModifierKind; 3] = [
+    ModifierKind::Public,
+    ModifierKind::Protected,
+    ModifierKind::Private,
+];
+
 impl Modifiers {
     /// No keyword.
     pub fn none() -> Modifiers
@@ -27,6 +33,7 @@ impl Modifiers {
         }
     }
 
+    // A flag, since a reader that is refused stops, for whichever reason.
     /// Puts a keyword at the end, in place of an earlier one of its kind. One that does not begin
     /// after all the others, or ends past 32 bits, is refused, and nothing changes.
     pub fn add(&mut self, kind: ModifierKind, start: u32) -> bool
@@ -34,13 +41,11 @@ impl Modifiers {
         ensures refused { result ≡ false → self.new ≡ self.old }
         ensures put { result ≡ true → entries self.new ≡ added (entries self.old) (word_at kind start) }
     {
-        let kept = *self;
-        if kept.may_follow(kind, start) {
-            *self = kept.with(kind, start);
-            true
-        } else {
-            false
+        if !self.may_follow(kind, start) {
+            return false;
         }
+        *self = self.with(kind, start);
+        true
     }
 
     /// Whether a kind is kept.
@@ -55,27 +60,17 @@ impl Modifiers {
     pub fn get(self, kind: ModifierKind) -> Option<Modifier>
         ensures { result ≡ entry_of kind (entries self) }
     {
-        if self.contains(kind) {
-            let start = self.starts[kind.number() as usize];
-            Some(Modifier { start, kind })
-        } else {
-            None
-        }
+        let start = self.starts[kind.number() as usize];
+        self.contains(kind).then_some(Modifier { start, kind })
     }
 
     /// The accessibility: public before protected before private.
     pub fn accessibility(self) -> Option<ModifierKind>
         ensures { result ≡ accessibility_of (entries self) }
     {
-        if self.contains(ModifierKind::Public) {
-            Some(ModifierKind::Public)
-        } else if self.contains(ModifierKind::Protected) {
-            Some(ModifierKind::Protected)
-        } else if self.contains(ModifierKind::Private) {
-            Some(ModifierKind::Private)
-        } else {
-            None
-        }
+        ACCESSIBILITIES
+            .into_iter()
+            .find(|kind| self.contains(*kind))
     }
 
     /// How many kinds are kept.
@@ -100,14 +95,12 @@ impl Modifiers {
     pub fn placed_at(self, i: usize) -> Option<Placed>
         ensures { result ≡ placed_if (slice_get (entries self) i) }
     {
-        match self.at(i) {
-            Some(m) => Some(Placed {
-                kind: m.kind,
-                start: m.start,
-                end: m.start + m.kind.len(),
-            }),
-            None => None,
-        }
+        let m = self.at(i)?;
+        Some(Placed {
+            kind: m.kind,
+            start: m.start,
+            end: m.start + m.kind.len(),
+        })
     }
 
     /// The set of the kept kinds.
@@ -120,9 +113,7 @@ impl Modifiers {
     fn may_follow(self, kind: ModifierKind, start: u32) -> bool
         ensures { result ≡ may_follow (entries self) (word_at kind start) }
     {
-        let after = self.is_below(start);
-        let end = Modifier { start, kind }.end();
-        after && end.is_some()
+        self.is_below(start) && Modifier { start, kind }.end().is_some()
     }
 
     // The starts rise, so the last one is enough.
@@ -160,14 +151,13 @@ fn entry(starts: [u32; KINDS], n: u8) -> Modifier
     requires { n < 15 }
     ensures { result ≡ entry_at starts n }
 {
-    let start = starts[n as usize];
-    match ModifierKind::from_number(n) {
-        Some(kind) => Modifier { start, kind },
-        None => unreachable(),
+    Modifier {
+        start: starts[n as usize],
+        kind: ModifierKind::from_number(n).unwrap(),
     }
 }
 
-// The first `len` numbers but for `n`, and how many they are.
+// The first `len` numbers but for `n`, and how many they are: an array by value, as the list holds it.
 fn others(from: [u8; KINDS], len: usize, n: u8) -> ([u8; KINDS], usize)
     requires { len ≤ 15 }
     ensures few { result.1 ≤ len }
@@ -175,11 +165,10 @@ fn others(from: [u8; KINDS], len: usize, n: u8) -> ([u8; KINDS], usize)
     ensures kept { take result.1 result.0 ≡ filter (differs n) (take len from) }
 {
     let mut order = [0u8; KINDS];
-    let mut count = 0usize;
-    for i in 0..len {
-        let x = from[i];
-        if x != n {
-            order[count] = x;
+    let mut count = 0;
+    for x in &from[..len] {
+        if *x != n {
+            order[count] = *x;
             count += 1;
         }
     }

@@ -7,8 +7,7 @@ ghost use Rattle.table.specs.Tables.{table_meaning, table_questions};
 
 use super::Prepared;
 use crate::answering::{method_answer, part_answer};
-use crate::records::{PartRecord, find, part_number};
-use crate::taking::take_many;
+use crate::records::{Asked, PartRecord, find};
 use kinds::context::Context;
 use parts::{MethodFacts, Part, Span};
 use reader::{Ahead, TokenReader};
@@ -65,27 +64,23 @@ impl TokenReader for Prepared<'_> {
 
     fn advance(&mut self) {
         self.reader.advance();
-        if self.left > 0 {
-            self.left -= 1;
-        }
+        self.left = self.left.saturating_sub(1);
     }
 }
 
 impl ScriptReader for Prepared<'_> {
     fn take_part(&mut self, part: Part, _context: Context) -> Result<Span, Span> {
         let answer = part_answer(self.records, part, self.reader.current(), self.left);
-        take_many(self, answer.count);
-        answer.result
+        answer.take(self)
     }
 
     fn take_method(&mut self, _context: Context) -> Result<MethodFacts, Span> {
         let answer = method_answer(self.records, self.reader.current(), self.left);
-        take_many(self, answer.count);
-        answer.result
+        answer.take(self)
     }
 
     fn starts_index(&self, _context: Context) -> bool {
         let t = self.reader.current();
-        find(self.records, part_number(Part::IndexRest), t.start).is_some()
+        find(self.records, Asked::Plain(Part::IndexRest), t.start).is_some()
     }
 }

@@ -20,6 +20,7 @@ impl Decorators {
     }
 
     /// One more; false, and nothing changes, where there are sixteen.
+    // A `bool`, as every `push` here answers: there is one reason only, and it is no error.
     pub fn push(&mut self, span: Span) -> bool
         ensures answer { result ≡ nat_lt (length (spans_of self.old)) 16 }
         ensures pushed { result ≡ true → spans_of self.new ≡ spans_of self.old ++ (span ∷ []) }
@@ -34,19 +35,21 @@ impl Decorators {
         }
     }
 
+    pub fn as_slice(&self) -> &[Span]
+        ensures { result.now ≡ spans_of self.now }
+    {
+        &self.spans[..usize::from(self.count)]
+    }
+
     pub fn len(&self) -> usize
         ensures { result ≡ length (spans_of self.now) }
     {
-        usize::from(self.count)
+        self.as_slice().len()
     }
 
     pub fn at(&self, i: usize) -> Option<Span>
         ensures { result ≡ slice_get (spans_of self.now) i }
     {
-        if i < self.count as usize {
-            Some(self.spans[i])
-        } else {
-            None
-        }
+        self.as_slice().get(i).copied()
     }
 }

@@ -3,12 +3,12 @@ use Rattle.lexeme.specs.Format.{lexeme_of}
 use Rattle.lexeme.specs.Words.{word_kind}
 use Rattle.samples.specs.Samples.{SamplesStand}
 use Rattle.verdicts.specs.Orders.{order_of}
-use Rattle.verdicts.specs.Verdicts.{forbids, verdict_of}
+use Rattle.verdicts.specs.Verdicts.{forbids, rule_of, verdict_of}
 use Rattle.samples.proofs.samples_stand.Goals as goal
 
 -- The checker computes each of them.
 all : SamplesStand
-unfolding lexeme_of word_kind order_of verdict_of forbids
+unfolding lexeme_of word_kind order_of verdict_of rule_of forbids
 all =
     record {
       none = record { keeps = refl; lists = refl; earns = refl };

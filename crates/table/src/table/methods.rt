@@ -6,36 +6,10 @@ ghost use Rattle.refusal.specs.Questions.{first_no, number_of};
 ghost use Rattle.table.specs.Tables.{table_meaning, table_questions};
 
 use super::Table;
-use crate::questions::refusal_of;
+use crate::questions::check;
 use reader::{Ahead, TokenReader};
 use refusal::Opened;
-use token::{Token, kind};
-
-const EOF0: Token = Token {
-    kind: 0,
-    start: 0,
-    end: 0,
-    line_break: false,
-    name: 0,
-};
-
-// The token at `i`, or the end of input past the table.
-fn token_at(ts: &[Token], i: usize) -> Token
-    ensures { result ≡ head (closed (drop i ts.now)) }
-{
-    if i < ts.len() { ts[i] } else { EOF0 }
-}
-
-// The place after `i`, unless the end of input stands there.
-fn step_from(ts: &[Token], i: usize) -> usize
-    ensures { closed (drop result ts.now) ≡ next (closed (drop i ts.now)) }
-{
-    if i < ts.len() && ts[i].kind != kind::EOF {
-        i + 1
-    } else {
-        i
-    }
-}
+use token::{Kind, Token};
 
 impl<'a> Table<'a> {
     pub fn new(tokens: &'a [Token]) -> Opened<Table<'a>>
@@ -44,7 +18,7 @@ impl<'a> Table<'a> {
         ensures last { table_last result.reader ≡ 0 }
         ensures sound { sound (table_tokens result.reader) ≡ true }
     {
-        let refused = refusal_of(tokens);
+        let refused = check(tokens).err();
         let at = if refused.is_some() { tokens.len() } else { 0 };
         let reader = Table {
             tokens,
@@ -52,6 +26,23 @@ impl<'a> Table<'a> {
             taken: 0,
         };
         Opened { reader, refused }
+    }
+
+    // The token at `i`, or the end of input past the table.
+    fn token_at(&self, i: usize) -> Token
+        ensures { result ≡ head (closed (drop i self.now.tokens.now)) }
+    {
+        self.tokens.get(i).copied().unwrap_or(Token::EOF_AT_0)
+    }
+
+    // The place after `i`, unless the end of input stands there.
+    fn step_from(&self, i: usize) -> usize
+        ensures { closed (drop result self.now.tokens.now) ≡ next (closed (drop i self.now.tokens.now)) }
+    {
+        match self.tokens.get(i) {
+            Some(t) if t.kind != Kind::EOF => i + 1,
+            _ => i,
+        }
     }
 }
 
@@ -61,19 +52,18 @@ impl TokenReader for Table<'_> {
     ghost last = { table_last };
 
     fn current(&self) -> Token {
-        token_at(self.tokens, self.at)
+        self.token_at(self.at)
     }
 
     fn peek(&self, d: Ahead) -> Token {
-        let one = step_from(self.tokens, self.at);
-        match d {
-            Ahead::One => token_at(self.tokens, one),
-            Ahead::Two => token_at(self.tokens, step_from(self.tokens, one)),
-            Ahead::Three => token_at(
-                self.tokens,
-                step_from(self.tokens, step_from(self.tokens, one)),
-            ),
-        }
+        let one = self.step_from(self.at);
+        let two = self.step_from(one);
+        let place = match d {
+            Ahead::One => one,
+            Ahead::Two => two,
+            Ahead::Three => self.step_from(two),
+        };
+        self.token_at(place)
     }
 
     fn last_end(&self) -> u32 {
@@ -81,12 +71,10 @@ impl TokenReader for Table<'_> {
     }
 
     fn advance(&mut self) {
-        let t = token_at(self.tokens, self.at);
-        self.taken = if t.kind == kind::EOF {
-            self.taken
-        } else {
-            t.end
-        };
-        self.at = step_from(self.tokens, self.at);
+        let t = self.current();
+        self.at = self.step_from(self.at);
+        if t.kind != Kind::EOF {
+            self.taken = t.end;
+        }
     }
 }

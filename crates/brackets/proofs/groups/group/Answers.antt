@@ -1,5 +1,6 @@
+use Rattle.std.proofs.Common.{Ok, ap}
 use Rattle.brackets.specs.Depth.{inside}
-use Rattle.brackets.proofs.Answering.{followed, given, refused_as, stopped, took}
+use Rattle.brackets.proofs.Answering.{followed, given_as, refused_as, stopped, took}
 use Rattle.brackets.proofs.groups.group.Goals as goal
 
 pub returns-in_err-opener : goal.returns-in_err-opener
@@ -14,4 +15,4 @@ returns-in_err-closer g c =
 
 pub returns : goal.returns
 returns g c =
-    followed _ _ c.in_ok-opener.ensures (followed _ _ (took inside _ c.skip_inside.ensures) (followed _ _ c.in_ok-closer.ensures (given _ _)))
+    followed _ _ c.in_ok-opener.ensures (followed _ _ (took inside _ c.skip_inside.ensures) (followed _ _ c.in_ok-closer.ensures (given_as _ (ap Ok c.from_to.ensures))))

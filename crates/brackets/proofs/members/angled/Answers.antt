@@ -1,4 +1,5 @@
-use Rattle.brackets.proofs.Answering.{followed, given, refused_as, stopped}
+use Rattle.std.proofs.Common.{Ok, ap}
+use Rattle.brackets.proofs.Answering.{followed, given_as, refused_as, stopped}
 use Rattle.brackets.proofs.members.angled.Goals as goal
 
 pub returns-in_err-left : goal.returns-in_err-left
@@ -18,4 +19,4 @@ returns-in_err-right g c =
 
 pub returns : goal.returns
 returns g c =
-    followed _ _ c.in_ok-left.ensures (followed _ _ c.in_ok-_word.ensures (followed _ _ c.in_ok-right.ensures (given _ _)))
+    followed _ _ c.in_ok-left.ensures (followed _ _ c.in_ok-_word.ensures (followed _ _ c.in_ok-right.ensures (given_as _ (ap Ok c.from_to.ensures))))

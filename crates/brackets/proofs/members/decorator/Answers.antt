@@ -1,4 +1,5 @@
-use Rattle.brackets.proofs.Answering.{followed, given, refused_as, stopped}
+use Rattle.std.proofs.Common.{Ok, ap}
+use Rattle.brackets.proofs.Answering.{followed, given_as, refused_as, stopped}
 use Rattle.brackets.proofs.members.decorator.Goals as goal
 
 pub returns-in_err-sign : goal.returns-in_err-sign
@@ -12,4 +13,4 @@ returns-in_err-word g c =
     refused_as f.result f.ensures.1 (followed _ _ c.in_ok-sign.ensures (stopped _ _ c.in_err-word.ensures))
 
 pub returns : goal.returns
-returns g c = followed _ _ c.in_ok-sign.ensures (followed _ _ c.in_ok-word.ensures (given _ _))
+returns g c = followed _ _ c.in_ok-sign.ensures (followed _ _ c.in_ok-word.ensures (given_as _ (ap Ok c.from_to.ensures)))

@@ -23,4 +23,4 @@ pub returns : goal.returns
 returns g c =
     told_span index_told index_within index_takes
     (followed _ _ c.in_ok-_keys.ensures (followed _ _ c.in_ok-_values.ensures (followed _ _ c.in_ok-semicolon.ensures (given _ _))))
-    c.current-start.ensures.ends c.current-start.result c.current-start.ensures.value c.last_end.result c.last_end.ensures.value
+    c.current-start.ensures.ends c.current-start.result c.current-start.ensures.value c.since.result c.since.ensures

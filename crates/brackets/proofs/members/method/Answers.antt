@@ -1,5 +1,6 @@
+use Rattle.std.proofs.Common.{Ok, ap}
 use Rattle.brackets.specs.Format.{method_told}
-use Rattle.brackets.proofs.Answering.{followed, given, refused_as, stopped, unspanned}
+use Rattle.brackets.proofs.Answering.{answered_as, followed, given, refused_as, stopped, unspanned}
 use Rattle.brackets.proofs.Bounds.{told_span}
 use Rattle.brackets.proofs.Laws.{method_takes, method_within}
 use Rattle.brackets.proofs.members.method.Goals as goal
@@ -26,6 +27,7 @@ returns-in_err-body_start g c =
 
 pub returns : goal.returns
 returns g c =
-    told_span method_told method_within method_takes
+    answered_as (ap Ok c.method_facts.ensures)
+    (told_span method_told method_within method_takes
     (followed _ _ c.in_ok-type_parameters.ensures (followed _ _ c.in_ok-list.ensures (followed _ _ c.in_ok-return_type.ensures (followed _ _ c.in_ok-body_start.ensures (given _ _)))))
-    c.current-start.ensures.ends c.current-start.result c.current-start.ensures.value c.last_end.result c.last_end.ensures.value
+    c.current-start.ensures.ends c.current-start.result c.current-start.ensures.value c.since-span.result c.since-span.ensures)

@@ -1,7 +1,6 @@
-use Rattle.std.proofs.Common.{Ok, ap}
+use Rattle.std.proofs.Common.{Ok}
 use Rattle.brackets.specs.Depth.{inside}
-use Rattle.brackets.specs.Readings.{from_to}
-use Rattle.brackets.proofs.Answering.{answered_as, followed, given, refused_as, stopped, took}
+use Rattle.brackets.proofs.Answering.{followed, given_as, refused_as, stopped, took}
 use Rattle.brackets.proofs.parameters.parameter_list.Goals as goal
 
 pub returns-in_err-opener : goal.returns-in_err-opener
@@ -17,5 +16,4 @@ returns-in_err-closer g c =
 pub returns : goal.returns
 returns g c =
     let w = c.take_parameters-parameters.ensures in
-    answered_as (ap (λ p. Ok (record { span = from_to c.in_ok-opener.opener c.in_ok-closer.closer; parameters = p })) w.value)
-    (followed _ _ c.in_ok-opener.ensures (followed _ _ (took inside _ w.after) (followed _ _ c.in_ok-closer.ensures (given _ _))))
+    followed _ _ c.in_ok-opener.ensures (followed _ _ (took inside _ w.after) (followed _ _ c.in_ok-closer.ensures (given_as _ (λ i. Ok (record { span = c.from_to.ensures i; parameters = w.value i })))))

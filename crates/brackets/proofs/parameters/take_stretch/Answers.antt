@@ -1,43 +1,44 @@
-use Rattle.std.proofs.Common.{◌≡◌, ℕ, true, false, sym, refl, ap, ◌∙◌, arith}
-use Rattle.std.proofs.lemmas.Bool.Decides.{nat_tests}
-use Rattle.reader.specs.Scenes.{scene}
-use Rattle.reader.specs.Tokens.{is_eof}
+use Rattle.std.proofs.Common.{◌≡◌, ℕ, ◌&&◌, ◌||◌, eqb, List, [], ◌∷◌, Some, None, sym, refl, ◌∙◌, rules}
+use Rattle.std.proofs.Math.Bool.{or_assoc, or-false}
+use Rattle.token.specs.Kinds.{k_eq, k_question}
 use Rattle.token.specs.declared.Token.{Token}
-use Rattle.brackets.specs.Inner.{ends_stretch}
-use Rattle.brackets.proofs.Answering.{moved}
-use Rattle.brackets.proofs.Stretching.{stretch_end, stretch_turn}
-use Rattle.brackets.proofs.Walking.{goal_end, goal_turn}
+use Rattle.brackets.specs.Depth.{deeper, folded}
+use Rattle.brackets.specs.Inner.{ends_stretch, extended_by, stretch_of, told}
+use Rattle.brackets.specs.Parameters.{end_of, own}
+use Rattle.brackets.specs.declared.parameters.Stretch.{Stretch}
 use Rattle.brackets.proofs.parameters.take_stretch.Goals as goal
 
-not_eof : (d : ℕ) (t : Token) → ends_stretch d t ≡ false → is_eof t ≡ false
-not_eof d t h = grind (arith, nat_tests)
-
-pub loop-t-init : goal.loop-t-init
-loop-t-init g c = (refl, refl, record { kind = λ _. refl; start = λ _. refl })
-
-pub loop-t-preserved : goal.loop-t-preserved
-loop-t-preserved g c =
-    let s = scene g.R.TokenReader c.loop-t.r in
-    let d = c.loop-t.depth in
-    let t = c.current-t.result in
-    let p = c.current-t.ensures.value in
-    let h : ends_stretch d t ≡ false = sym c.if-ends_stretch.ensures in
-    let e = not_eof d t h in
-    let a = c.advance.ensures in
-    let k : c.extended-s.result.filled ≡ false → ⊥ = λ z. grind (arith, ap (λ x. x.filled) c.extended-s.ensures) in (
-      goal_turn ends_stretch d s t p e h c.deeper-depth.ensures (moved s.tokens s.last a.tokens a.last a.answers) ∙ c.loop-t.invariant.0,
-      stretch_turn c.loop-t.s d s.tokens t p c.extended-s.result c.deeper-depth.result _ e h c.extended-s.ensures c.deeper-depth.ensures a.tokens ∙ c.loop-t.invariant.1,
-      record { kind = λ z. absurd (k z); start = λ z. absurd (k z) },
-    )
-
-pub returns-then-ends_stretch : goal.returns-then-ends_stretch
-returns-then-ends_stretch g c =
-    let s = scene g.R.TokenReader c.loop-t.r in
-    let d = c.loop-t.depth in
-    let t = c.current-t.result in
-    let p = c.current-t.ensures.value in
-    let h : ends_stretch d t ≡ true = sym c.if-ends_stretch.ensures in
+-- a stretch and the tokens that go on with it, of which the first stands at depth d
+abbrev continued : Stretch → ℕ → List Token → Stretch
+continued s d ts =
     record {
-      value = stretch_end c.loop-t.s d s.tokens t p c.loop-t.invariant.2 h ∙ c.loop-t.invariant.1;
-      after = goal_end ends_stretch d s t p h ∙ c.loop-t.invariant.0;
+      kind = s.kind;
+      item = record {
+        span = record { start = s.item.span.start; end = end_of s.item.span.end ts };
+        optional = s.item.optional || own k_question d ts;
+        initializer = s.item.initializer || own k_eq d ts;
+      };
     }
+
+folded_more : (ts : List Token) (d : ℕ) (s : Stretch) → folded extended_by d (Some s) ts ≡ Some (continued s d ts)
+folded_more [] d s =
+    λ i. Some (record { kind = s.kind; item = record { span = s.item.span; optional = sym (or-false s.item.optional) i; initializer = sym (or-false s.item.initializer) i } })
+folded_more (t ∷ ts) d s =
+    folded_more ts (deeper d t.kind.code) _
+    ∙ (λ i. Some (record {
+      kind = s.kind;
+      item = record {
+        span = record { start = s.item.span.start; end = end_of t.end ts };
+        optional = or_assoc s.item.optional (eqb d 0 && eqb t.kind.code k_question) (own k_question (deeper d t.kind.code) ts) i;
+        initializer = or_assoc s.item.initializer (eqb d 0 && eqb t.kind.code k_eq) (own k_eq (deeper d t.kind.code) ts) i;
+      };
+    }))
+
+folded_told : (ts : List Token) → folded extended_by 0 None ts ≡ told ts
+folded_told [] = refl
+folded_told (t ∷ ts) = folded_more ts (deeper 0 t.kind.code) _
+
+pub returns-clause-value : goal.returns-clause-value
+returns-clause-value g c =
+    c.fold_until.ensures.value ends_stretch extended_by (λ d t b h. search rules) (λ s d t s' h. search rules)
+    ∙ folded_told (stretch_of (g.R.TokenReader.tokens c.args.r.now))

@@ -10,5 +10,5 @@ use Rattle.class.proofs.methods.end_constructor.Goals as goal
 pub returns : goal.returns
 unfolding constructor_end_d
 returns c = λ s.
-    note_spoke _ _ (ap₂ (λ (b : Bool) (m : Facts). constructor_reports b c.args.name.code m) c.contains-ambient.ensures c.method_of-m.ensures) c.note_constructor.ensures
+    note_spoke _ _ (ap₂ (λ (b : Bool) (m : Facts). constructor_reports b c.args.name.special m) c.contains-ambient.ensures c.method_of-m.ensures) c.note_constructor.ensures
     (done_is (ap Constructor c.method_of-m.ensures))

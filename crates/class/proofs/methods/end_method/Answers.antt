@@ -10,5 +10,5 @@ use Rattle.class.proofs.methods.end_method.Goals as goal
 pub returns : goal.returns
 unfolding method_end_d
 returns c = λ s.
-    note_spoke _ _ (ap₂ (λ (b : Bool) (m : Facts). plain_reports b c.args.name.code m) c.contains-ambient.ensures c.method_of-m.ensures) c.note_plain.ensures
+    note_spoke _ _ (ap₂ (λ (b : Bool) (m : Facts). plain_reports b c.args.name.special m) c.contains-ambient.ensures c.method_of-m.ensures) c.note_plain.ensures
     (done_is (ap Method c.method_of-m.ensures))

@@ -12,4 +12,4 @@ returns-then-is g c = eat_yes _ _ _ c.current-t.ensures.value (sym c.if-is.ensur
 
 pub returns : goal.returns
 unfolding closed_d
-returns g c = eat_no _ _ _ c.current-t.ensures.value (sym c.if-is.ensures) (stop_spoke ExpectToken _ refl (ap (at_place 49) c.place_at.ensures) c.note_fatal.ensures)
+returns g c = eat_no _ _ _ c.current-t.ensures.value (sym c.if-is.ensures) (stop_spoke ExpectToken _ refl (ap (at_place 49) c.from.ensures) c.note_fatal.ensures)

@@ -8,18 +8,20 @@ use Rattle.modifiers.proofs.Laws.{entries_fit}
 use Rattle.modifiers.specs.Entries.{end_of}
 use Rattle.class.proofs.properties.abstract_place.Goals as goal
 
-pub returns-in_default-end : goal.returns-in_default-end
-returns-in_default-end c =
-    let f = entry_fits Abstract (entries c.args.modifiers) c.in-Some.word (entries_fit c.args.modifiers) c.in-Some.ensures in
-    let p : None ≡ Some (end_of c.in-Some.word) = c.in_default-end.ensures ∙ ap (λ (b : Bool). cond b (Some (end_of c.in-Some.word)) None) f in
+pub returns-in_err-end : goal.returns-in_err-end
+returns-in_err-end c =
+    let w = c.in_ok-word.word in
+    let f = entry_fits Abstract (entries c.args.modifiers) w (entries_fit c.args.modifiers) c.in_ok-word.ensures in
+    let p : None ≡ Some (end_of w) = c.in_err-end.ensures ∙ ap (λ (b : Bool). cond b (Some (end_of w)) None) f in
     let z : ◌≡◌ {A = ℕ} 0 1 = cc in absurd (omega arith)
 
 pub returns : goal.returns
 returns c =
-    let f = entry_fits Abstract (entries c.args.modifiers) c.in-Some.word (entries_fit c.args.modifiers) c.in-Some.ensures in
-    let p : Some c.in-Some-end.end ≡ Some (end_of c.in-Some.word) = c.in-Some-end.ensures ∙ ap (λ (b : Bool). cond b (Some (end_of c.in-Some.word)) None) f in
-    let q : c.in-Some-end.end ≡ end_of c.in-Some.word = cc in
-    ap (λ (e : ℕ). span_to c.in-Some.word.start e) q ∙ ap entry_place c.in-Some.ensures
+    let w = c.in_ok-word.word in
+    let f = entry_fits Abstract (entries c.args.modifiers) w (entries_fit c.args.modifiers) c.in_ok-word.ensures in
+    let p : Some c.in_ok-end.end ≡ Some (end_of w) = c.in_ok-end.ensures ∙ ap (λ (b : Bool). cond b (Some (end_of w)) None) f in
+    let q : c.in_ok-end.end ≡ end_of w = cc in
+    ap (λ (e : ℕ). span_to w.start e) q ∙ ap entry_place c.in_ok-word.ensures
   where
     span_to : ℕ → ℕ → Option Span
     span_to a b = Some (record { start = a; end = b })

@@ -9,5 +9,5 @@ pub returns : goal.returns
 unfolding property_end_d
 returns c = λ s.
     check_spoke _ _ _ c.run_check.ensures
-    (note_spoke _ _ (λ i. property_reports (c.contains-ambient.ensures i) c.args.name.code (c.abstract_place-keyword.ensures i) c.args.bang (c.property_of-p.ensures i)) c.note_property.ensures
+    (note_spoke _ _ (λ i. property_reports (c.contains-ambient.ensures i) c.args.marked.name.special (c.abstract_place-keyword.ensures i) c.args.marked.bang (c.property_of-p.ensures i)) c.note_property.ensures
     (done_is (ap Property c.property_of-p.ensures)))

@@ -6,7 +6,7 @@ use Rattle.class.proofs.taking.optional.Goals as goal
 
 pub returns-then-is : goal.returns-then-is
 unfolding optional_d
-returns-then-is g c = λ l. eat_yes _ _ _ c.current-t.ensures.value (sym c.if-is.ensures) c.take.ensures (done_is (ap Some c.place_at.ensures))
+returns-then-is g c = λ l. eat_yes _ _ _ c.current-t.ensures.value (sym c.if-is.ensures) c.take.ensures (done_is (ap Some c.from.ensures))
 
 pub returns : goal.returns
 unfolding optional_d

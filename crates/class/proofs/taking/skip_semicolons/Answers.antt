@@ -8,5 +8,5 @@ use Rattle.class.proofs.taking.skip_semicolons.Goals as goal
 
 pub loop-script-preserved : goal.loop-script-preserved
 loop-script-preserved g c =
-    let e = ap (λ (t : Token). is_kind k_semicolon t.kind) c.current.ensures.value in
+    let e = ap (λ (t : Token). is_kind k_semicolon t.kind.code) c.current.ensures.value in
     semicolon_more (scene g.S.TokenReader c.loop-script.script) (sym e ∙ sym c.loop-script-test.ensures) c.take.ensures ∙ c.loop-script.invariant

@@ -1,18 +1,12 @@
-use Rattle.std.proofs.Common.{sym, refl}
-use Rattle.class.specs.Taking.{inserted_d}
-use Rattle.class.proofs.Steps.{done_is}
-use Rattle.dialogue.proofs.Steps.{eat_no, eat_yes, last_spoke, stop_spoke, test_false, test_true}
+use Rattle.std.proofs.Common.{ℕ, ap}
+use Rattle.class.proofs.Steps.{spoke_as}
+use Rattle.class.specs.Taking.{inserted_d, semicolon_or_d}
+use Rattle.dialogue.specs.Dialogues.{stop}
 use Rattle.dialogue.specs.declared.Fatal.TheVariants.{AutoSemicolonInsertion}
 use Rattle.class.proofs.taking.take_inserted.Goals as goal
 
-pub returns-then-is : goal.returns-then-is
-unfolding inserted_d
-returns-then-is g c = eat_yes _ _ _ c.current-t.ensures.value (sym c.if-is.ensures) c.take.ensures (done_is refl)
-
-pub returns-then-can_insert : goal.returns-then-can_insert
-unfolding inserted_d
-returns-then-can_insert g c = eat_no _ _ _ c.current-t.ensures.value (sym c.if-is.ensures) (test_true _ _ _ (sym c.if-can_insert.ensures) (done_is refl))
-
 pub returns : goal.returns
 unfolding inserted_d
-returns g c = eat_no _ _ _ c.current-t.ensures.value (sym c.if-is.ensures) (test_false _ _ _ (sym c.if-can_insert.ensures) (last_spoke _ c.last_end-end.ensures.value (stop_spoke AutoSemicolonInsertion _ refl refl c.note_fatal.ensures)))
+returns g c =
+    let x = spoke_as (ap (λ (e : ℕ). semicolon_or_d (λ _. stop AutoSemicolonInsertion (record { start = e; end = e }))) c.last_end-end.ensures.value) c.take_semicolon_or.ensures in
+    record { value = x.value; means = x.means; reports = x.reports }

@@ -1,33 +1,49 @@
-use Rattle.std.proofs.Common.{◌≡◌, ℕ, ◌+◌, ◌<◌, cond, ◌&&◌, eqb, List, length, get_or, drop, ap, ◌∙◌, add-zero, arith}
-use Rattle.std.proofs.lemmas.List.{at_drop_more, at_drop_all, get_or-drop}
+use Rattle.std.proofs.Common.{◌≡◌, ℕ, ◌<◌, ◌≤◌, Bool, cond, ltb, List, [], ◌∷◌, length, take, drop, codes, Some, None, unwrap_or, refl, ap, ◌∙◌, subst, arith, rules, tests}
+use Rattle.std.specs.List.{position_or_len}
+use Rattle.std.specs.Slice.Iter.{windows_rest, windows_size, windows_steps}
+use Rattle.std.specs.declared.slice.Windows.{Windows}
+use Rattle.std.specs.Str.{bytes_eq}
 use Rattle.std.proofs.lemmas.Bool.Decides.{nat_tests}
-use Rattle.lexeme.specs.Bytes.{byte}
+use Rattle.std.proofs.lemmas.Iterator.{YieldsList}
+use Rattle.std.proofs.lemmas.Iterator.Search.{position_from_yields_List}
+use Rattle.std.proofs.lemmas.Iterator.Splits.{YieldsList-from_shown_while}
 use Rattle.lexeme.specs.Format.{before_close}
 use Rattle.lexeme.proofs.sorts.before_close.Goals as goal
-use Rattle.lexeme.proofs.sorts.before_close.Goals.{else-rest-n-eq42-via-then-rest-n-eq42+else-byte_at-eq47, else-rest-n-eq42-via-else-rest-n-eq42}
 
-at_byte : (s : List ℕ) (n : ℕ) → n < length s →
-    before_close (drop n s) ≡ cond (eqb (get_or s n 0) (byte "*") && eqb (get_or s (n + 1) 0) (byte "/")) 0 (1 + before_close (drop (n + 1) s))
-at_byte s n h =
-    let e : get_or (drop (n + 1) s) 0 0 ≡ get_or s (n + 1) 0 = get_or-drop (n + 1) s 0 0 ∙ ap (λ i. get_or s i 0) (add-zero (n + 1)) in
-    at_drop_more before_close s n 0 h ∙ rw e
+-- each byte with the next one
+abbrev pairs : List ℕ → List (List ℕ)
+pairs [] = []
+pairs (b ∷ []) = []
+pairs (b ∷ (c ∷ bs)) = (b ∷ (c ∷ [])) ∷ pairs (c ∷ bs)
 
-pub returns-then-byte_at-eq47 : goal.returns-then-byte_at-eq47
-returns-then-byte_at-eq47 c =
-    let e = at_byte c.args.rest.now c.loop-n.n c.loop-n-test.true in
-    record { value = grind (arith, nat_tests); within = omega arith }
+pairs_none : (bs : List ℕ) → length bs < 2 → length (pairs bs) ≡ 0
+pairs_none [] h = refl
+pairs_none (b ∷ []) h = refl
+pairs_none (b ∷ (c ∷ bs)) h = absurd (omega arith)
 
-pub loop-n-preserved : goal.loop-n-preserved
-loop-n-preserved c =
-    let e = at_byte c.args.rest.now c.loop-n.n c.loop-n-test.true in (
-      omega arith,
-      elim c.else-rest-n-eq42.branch [
-        | else-rest-n-eq42-via-then-rest-n-eq42+else-byte_at-eq47 w ↦ grind (arith, nat_tests)
-        | else-rest-n-eq42-via-else-rest-n-eq42 w ↦ grind (arith, nat_tests)
-      ],
-    )
+pairs_some : (bs : List ℕ) → 2 ≤ length bs → pairs bs ≡ take 2 bs ∷ pairs (drop 1 bs)
+pairs_some [] h = absurd (omega arith)
+pairs_some (b ∷ []) h = absurd (omega arith)
+pairs_some (b ∷ (c ∷ bs)) h = refl
 
-pub returns : goal.returns
-returns c =
-    let e = at_drop_all before_close c.args.rest.now c.loop-n.n (omega arith) in
-    record { value = omega arith; within = omega arith }
+abbrev closes : List ℕ → Bool
+closes w = bytes_eq w (codes "*/")
+
+closed : (bs : List ℕ) → unwrap_or (cond (ltb (position_or_len closes (pairs bs)) (length (pairs bs))) (Some (position_or_len closes (pairs bs))) None) (length bs) ≡ before_close bs
+closed [] = refl
+closed (b ∷ []) = grind (arith, nat_tests)
+closed (b ∷ (c ∷ bs)) = let ih = closed (c ∷ bs) in grind (arith, nat_tests)
+
+windows_pairs : (bs : List ℕ) (s : Windows ℕ) → windows_rest s ≡ bs → windows_size s ≡ 2 → YieldsList windows_steps (λ w. w.now) s (pairs bs)
+windows_pairs bs s r e =
+    subst (λ l. YieldsList windows_steps (λ w. w.now) s (pairs l)) r
+    (YieldsList-from_shown_while windows_steps (λ w. w.now) (λ t. pairs (windows_rest t)) (λ t. windows_size t ≡ 2)
+    (λ t u p h. pairs_none (windows_rest t) (omega arith))
+    (λ t w u p h. let q = pairs_some (windows_rest t) (omega arith) in (h.0 ∙ p, cc)) s e)
+
+pub returns-clause-value : goal.returns-clause-value
+returns-clause-value c =
+    let bs = c.args.rest.now in
+    let e : c.position.result ≡ cond (ltb (position_or_len closes (pairs bs)) (length (pairs bs))) (Some (position_or_len closes (pairs bs))) None =
+    position_from_yields_List closes _ _ c.position.result c.position.ensures.ran (windows_pairs bs c.windows.result (cc) (cc)) (λ x b q k. search (rules, tests)) in
+    c.unwrap_or.ensures ∙ ap (λ o. unwrap_or o (length bs)) e ∙ closed bs

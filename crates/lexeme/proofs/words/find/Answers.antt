@@ -1,33 +1,33 @@
-use Rattle.std.proofs.Common.{◌≡◌, ℕ, ◌+◌, ◌<◌, Bool, cond, List, [], length, get_or, drop, Decides, sym, ◌∙◌, arith}
+use Rattle.std.proofs.Common.{◌≡◌, Bor, MatchOption, ℕ, Bool, true, false, cond, List, [], ◌∷◌, Some, None, Option, refl, ap, ◌∙◌, rules, tests}
+use Rattle.std.specs.List.{find}
+use Rattle.std.specs.Option.{option_map, option_map_or}
 use Rattle.std.specs.Str.{bytes_eq}
-use Rattle.std.proofs.lemmas.Slice.Eq.{slice_eq-Decides, bytes_eq-Decides}
-use Rattle.std.proofs.lemmas.List.{at_drop_more, at_drop_all}
-use Rattle.std.proofs.lemmas.Bool.Decides.{same_from_decides, Decides-like, Decides-eqb}
+use Rattle.std.proofs.lemmas.Iterator.{YieldsList-from_slice}
+use Rattle.std.proofs.lemmas.Iterator.Search.{find_from_yields_List}
+use Rattle.token.specs.Kinds.{k_ident}
+use Rattle.token.specs.declared.kind.Kind.{Kind}
 use Rattle.lexeme.specs.Rows.{rows_kind}
 use Rattle.lexeme.specs.declared.words.Row.{Row}
 use Rattle.lexeme.proofs.words.find.Goals as goal
 
-abbrev no_row : Row
-no_row = record { word = record { ref_ptr = (0, 0); now = [] }; kind = 0 }
+abbrev has_word : List ℕ → Row → Bool
+has_word s w = bytes_eq s w.word.now
 
--- the rows from the i-th on, by what `==` tells of that row's word and s
-at_row : (ws : List Row) (i : ℕ) (s : List ℕ) (r : Bool) → i < length ws → Decides r ((get_or ws i no_row).word.now ≡ s) →
-    rows_kind (drop i ws) s ≡ cond r (get_or ws i no_row).kind (rows_kind (drop (i + 1) ws) s)
-at_row ws i s r h d =
-    let t = (get_or ws i no_row).word.now in
-    let e : bytes_eq s t ≡ r = sym (same_from_decides r (bytes_eq s t) (Decides-like r sym sym d) (bytes_eq-Decides s t)) in
-    at_drop_more (λ l. rows_kind l s) ws i no_row h ∙ rw e
+kind_found : (ws : List Row) (s : List ℕ) → option_map_or (λ w. w.kind.code) (find (has_word s) ws) k_ident ≡ rows_kind ws s
+kind_found [] s = refl
+kind_found (w ∷ ws) s = by (has_word s w) (kind_found ws s)
+  where
+    by : (b : Bool) → option_map_or (λ v. v.kind.code) (find (has_word s) ws) k_ident ≡ rows_kind ws s → option_map_or (λ v. v.kind.code) (cond b (Some w) (find (has_word s) ws)) k_ident ≡ cond b w.kind.code (rows_kind ws s)
+    by true e = refl
+    by false e = e
 
-pub returns-then-eq : goal.returns-then-eq
-returns-then-eq c =
-    let e = at_row c.args.rows.now c.loop-row.row-index c.args.text.now c.eq.result c.loop-row-test.true (slice_eq-Decides Decides-eqb _ _ _ c.eq.ensures) in
-    sym (simp c.if-eq.true at e) ∙ c.loop-row.invariant
-
-pub loop-row-preserved : goal.loop-row-preserved
-loop-row-preserved c =
-    let e = at_row c.args.rows.now c.loop-row.row-index c.args.text.now c.eq.result c.loop-row-test.true (slice_eq-Decides Decides-eqb _ _ _ c.eq.ensures) in
-    sym (simp c.if-eq.false at e) ∙ c.loop-row.invariant
+mapped : (o : Option (Bor Row)) (r : Kind) → MatchOption o (r ≡ record { code = k_ident }) (λ x. r ≡ x.now.kind) → r.code ≡ option_map_or (λ w. w.kind.code) (option_map (λ x. x.now) o) k_ident
+mapped None r h = ap (λ k. k.code) h
+mapped (Some x) r h = ap (λ k. k.code) h
 
 pub returns : goal.returns
 returns c =
-    sym (at_drop_all (λ ws. rows_kind ws c.args.text.now) c.args.rows.now c.loop-row.row-index (omega arith)) ∙ c.loop-row.invariant
+    let ws = c.args.rows.now in
+    let s = c.args.text.now in
+    let e : option_map (λ x. x.now) c.find.result ≡ find (has_word s) ws = find_from_yields_List (has_word s) _ _ c.find.result c.find.ensures.ran (YieldsList-from_slice ws (cc)) (λ x b q k. search (rules, tests)) in
+    mapped c.find.result c.map_or.result (search rules) ∙ ap (λ o. option_map_or (λ w. w.kind.code) o k_ident) e ∙ kind_found ws s

@@ -1,8 +1,10 @@
+use Rattle.std.proofs.Common.{◌≡◌, ◌+◌, ◌-◌, arith}
 use Rattle.reader.specs.Scenes.{scene}
 use Rattle.prepared.proofs.Stepping.{past_less}
 use Rattle.prepared.proofs.taking.take_many.Goals as goal
 
-pub loop-left-preserved : goal.loop-left-preserved
-loop-left-preserved g c =
-    let e = past_less c.loop-left.left (scene g.R.TokenReader c.loop-left.r) c.loop-left-test.true in
-    (cc, λ h. c.advance.ensures.sound (c.loop-left.invariant.1 h))
+pub loop-preserved : goal.loop-preserved
+loop-preserved g c =
+    let e = past_less (c.args.count - c.loop.counter) (scene g.R.TokenReader c.loop.r) (omega arith) in
+    let f : c.args.count - (c.loop.counter + 1) ≡ c.args.count - c.loop.counter - 1 = omega arith in
+    record { taken = cc; sound = λ h. c.advance.ensures.sound (c.loop.invariant.sound h) }

@@ -1,16 +1,11 @@
-use Rattle.std.proofs.Common.{arith}
-use Rattle.std.proofs.lemmas.List.{at_drop_all}
-use Rattle.std.proofs.lemmas.Bool.Decides.{nat_tests}
-use Rattle.reader.specs.Sound.{all_known}
-use Rattle.table.proofs.Walking.{known_more}
+use Rattle.std.proofs.Common.{◌∙◌, rules, tests}
+use Rattle.std.proofs.lemmas.Iterator.{YieldsList-from_slice}
+use Rattle.std.proofs.lemmas.Iterator.Search.{all_from_yields_List}
+use Rattle.reader.specs.Sound.{known}
+use Rattle.table.proofs.Walking.{all_known-by}
 use Rattle.table.proofs.questions.are_known.Goals as goal
 
-pub returns-then-not-is_known : goal.returns-then-not-is_known
-returns-then-not-is_known c =
-    let e = known_more c.args.ts.now c.loop-t.t-index (omega arith) in grind (arith, nat_tests)
-
-pub loop-t-preserved : goal.loop-t-preserved
-loop-t-preserved c = let e = known_more c.args.ts.now c.loop-t.t-index (omega arith) in grind (arith, nat_tests)
-
 pub returns : goal.returns
-returns c = let e = at_drop_all all_known c.args.ts.now c.loop-t.t-index (omega arith) in grind (arith, nat_tests)
+returns c =
+    let ts = c.args.ts.now in
+    all_from_yields_List known _ _ _ c.all.ensures.ran (YieldsList-from_slice ts (cc)) (λ x b q k. search (rules, tests)) ∙ all_known-by ts

@@ -1,19 +1,20 @@
-use Rattle.std.proofs.Common.{◌≡◌, true, false, List, is_some, sym, refl, ap, ◌∙◌, subst}
+use Rattle.std.proofs.Common.{◌≡◌, true, List, sym, ap, ◌∙◌, subst}
 use Rattle.reader.specs.Sound.{sound}
-use Rattle.refusal.proofs.Numbered.{some_number}
-use Rattle.refusal.specs.Questions.{first_no}
 use Rattle.token.specs.declared.Token.{Token}
-use Rattle.text.specs.Lexed.{lexed, text_meaning, text_questions}
+use Rattle.text.specs.Lexed.{lexed, text_meaning}
 use Rattle.text.specs.Means.{held_tokens}
 use Rattle.text.proofs.Lexing.{held_at, lexed_sound}
 use Rattle.text.proofs.Text.new.Goals as goal
 
-pub returns : goal.returns
-returns c =
-    let bs = c.args.text.now in
-    let e : held_tokens c.token_at-current.result bs ≡ lexed bs = ap (λ u. held_tokens u bs) c.token_at-current.ensures ∙ held_at 0 bs in
-    let n = some_number c.refusal_of-refused.result in
-    let z : is_some (first_no (text_questions bs)) ≡ false = cc in
-    let m : lexed bs ≡ text_meaning bs = rw z in
+pub returns-in-Ok-clause-tokens : goal.returns-in-Ok-clause-tokens
+returns-in-Ok-clause-tokens c =
+    let bs = c.in-Ok.source.bytes.now in
+    let h = c.in-Ok.ensures in
+    let m : lexed c.args.text.now ≡ text_meaning c.args.text.now = rw (sym h.0) in
+    ap (λ u. held_tokens u bs) c.token_at.ensures ∙ held_at 0 bs ∙ ap lexed h.1 ∙ m
+
+pub returns-in-Ok-clause-sound : goal.returns-in-Ok-clause-sound
+returns-in-Ok-clause-sound c =
+    let bs = c.in-Ok.source.bytes.now in
     let P : List Token → Type 0 = λ l. sound l ≡ true in
-    record { refused = c.refusal_of-refused.ensures; tokens = e ∙ m; last = refl; sound = subst P (sym e) (lexed_sound bs) }
+    subst P (sym (ap (λ u. held_tokens u bs) c.token_at.ensures ∙ held_at 0 bs)) (lexed_sound bs)

@@ -1,11 +1,11 @@
 use Rattle.std.proofs.Common.{◌≡◌, ◌+◌, ◌*◌, ◌/◌, ◌%◌, ◌<◌, ap, ◌∙◌, arith}
 use Rattle.std.proofs.lemmas.List.FromFn.{get_or-map-range_with_len}
-use Rattle.verdicts.specs.Verdicts.{kind_at, forbids, verdict_of}
+use Rattle.verdicts.specs.Verdicts.{kind_at, forbids, rule_of, verdict_of}
 use Rattle.verdicts.proofs.tables.verdict_at.Goals as goal
 
 -- The table is the list of the rule's values at 0, 1, .. 224, which the checker computes and compares.
 pub returns : goal.returns
-unfolding verdict_of forbids
+unfolding verdict_of rule_of forbids
 returns c =
     let t = c.args.later in
     let e = c.args.earlier in

@@ -1,25 +1,20 @@
-use Rattle.std.proofs.Common.{◌≡◌, true, false, cond, get_or, take, Some, None, sym, ap, ◌∙◌}
-use Rattle.kinds.specs.Modifiers.{modifier_number}
-use Rattle.modifiers.specs.Entries.{keeps, word_at}
+use Rattle.std.proofs.Common.{◌≡◌, Bool, true, false, cond, get_or, take, Some, None, sym, refl, ◌∙◌, ap₂}
+use Rattle.std.specs.Bool.{then_some}
+use Rattle.modifiers.specs.Entries.{word_at}
 use Rattle.modifiers.specs.Lists.{entries}
+use Rattle.modifiers.specs.declared.modifier.Modifier.{Modifier}
 use Rattle.modifiers.proofs.Held.{entry_found}
 use Rattle.modifiers.proofs.modifiers.Modifiers.get.Goals as goal
 
-pub returns-then-contains : goal.returns-then-contains
-unfolding entries
-returns-then-contains c =
-    let m = c.args.self in
-    let kind = c.args.kind in
-    let held : keeps kind (entries m) ≡ true = sym c.contains.ensures ∙ c.if-contains.true in
-    ap (λ n. Some (word_at kind (get_or m.starts n 0))) c.number.ensures
-    ∙ sym (ap (λ b. cond b (Some (word_at kind (get_or m.starts (modifier_number kind) 0))) None) held)
-    ∙ sym (entry_found m.starts kind (take m.len m.order) m.known)
+chosen : (b : Bool) (m : Modifier) → then_some b m ≡ cond b (Some m) None
+chosen true m = refl
+chosen false m = refl
 
-pub returns-else-contains : goal.returns-else-contains
+pub returns : goal.returns
 unfolding entries
-returns-else-contains c =
+returns c =
     let m = c.args.self in
     let kind = c.args.kind in
-    let held : keeps kind (entries m) ≡ false = sym c.contains.ensures ∙ c.if-contains.false in
-    sym (ap (λ b. cond b (Some (word_at kind (get_or m.starts (modifier_number kind) 0))) None) held)
+    c.then_some.ensures ∙ ap₂ (λ b n. then_some b (word_at kind (get_or m.starts n 0))) c.contains.ensures c.number.ensures
+    ∙ chosen _ _
     ∙ sym (entry_found m.starts kind (take m.len m.order) m.known)

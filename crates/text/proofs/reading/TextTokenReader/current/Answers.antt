@@ -4,6 +4,6 @@ use Rattle.text.proofs.reading.TextTokenReader.current.Goals as goal
 pub returns : goal.returns
 returns c =
     record {
-      value = held_head c.args.self.now.current c.args.self.now.text.now;
-      ends = held_ended c.args.self.now.current c.args.self.now.text.now;
+      value = held_head c.args.self.now.current c.args.self.now.source.bytes.now;
+      ends = held_ended c.args.self.now.current c.args.self.now.source.bytes.now;
     }

@@ -1,27 +1,22 @@
-use Rattle.std.proofs.Common.{◌≡◌, ◌-◌, length, ap, ◌∙◌}
+use Rattle.std.proofs.Common.{ap, ◌∙◌}
 use Rattle.parts.specs.declared.Span.{Span}
 use Rattle.reader.specs.Answers.{Answer}
-use Rattle.reader.specs.Tokens.{head}
+use Rattle.reader.specs.Scenes.{past}
 use Rattle.prepared.specs.Answers.{part_in}
 use Rattle.prepared.specs.Means.{script_scene, script_tokens}
-use Rattle.prepared.proofs.Counting.{part_here}
+use Rattle.prepared.proofs.Counting.{answer_here}
 use Rattle.prepared.proofs.Keeping.{prepared_lawful}
-use Rattle.prepared.proofs.Stepping.{past_by}
 use Rattle.prepared.proofs.prepared.methods.PreparedScriptReader.take_part.Goals as goal
 
 pub returns : goal.returns
 returns c =
     let s = c.args.self.now in
-    let rs = s.records.now in
-    let ts = script_tokens s in
-    let t = c.current.result in
-    let answer = c.part_answer-answer in
-    let told : Answer Span = part_in rs c.args.part t s.left in
-    let said : Answer Span = part_in rs c.args.part (head ts) (length ts - 1) in
-    let same : told ≡ said = part_here rs ts t s.left c.current.ensures.value s.counted c.args.part in
+    let same = answer_here (part_in s.records.now c.args.part) (script_tokens s) c.current.result s.left c.current.ensures.value s.counted in
+    let answer = c.part_answer-answer.ensures in
+    let took = c.take.ensures in
     record {
-      value = answer.ensures.result ∙ ap (λ (a : Answer Span). a.result) same;
-      after = past_by (script_scene s) (script_scene c.take_many.new.r) answer.result.count told said c.take_many.ensures.after answer.ensures.count same;
-      sound = c.take_many.ensures.sound;
-      lawful = prepared_lawful rs;
+      value = took.value ∙ answer.result ∙ ap (λ (a : Answer Span). a.result) same;
+      after = took.after ∙ ap (λ n. past n (script_scene s)) (answer.count ∙ ap (λ (a : Answer Span). a.count) same);
+      sound = took.sound;
+      lawful = prepared_lawful s.records.now;
     }

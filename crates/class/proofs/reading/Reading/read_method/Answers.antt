@@ -1,0 +1,14 @@
+use Rattle.class.proofs.Steps.{passed_on}
+use Rattle.class.specs.Forms.{method_form_d}
+use Rattle.class.specs.Taking.{method_d}
+use Rattle.dialogue.proofs.Sequels.{then_spoke}
+use Rattle.dialogue.proofs.Steps.{check_spoke}
+use Rattle.class.proofs.reading.Reading.read_method.Goals as goal
+
+pub returns-clause-spoke : goal.returns-clause-spoke
+unfolding method_form_d
+returns-clause-spoke g c = check_spoke _ _ _ c.run_check.ensures (then_spoke _ (method_d _) c.in_ok-facts.ensures (c.end_method.ensures _))
+
+pub returns-in_err-facts-clause-spoke : goal.returns-in_err-facts-clause-spoke
+unfolding method_form_d
+returns-in_err-facts-clause-spoke g c = check_spoke _ _ _ c.run_check.ensures (passed_on _ (method_d _) c.from_residual.ensures.1 c.in_err-facts.ensures)
