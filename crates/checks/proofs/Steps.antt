@@ -30,11 +30,11 @@ module _ (allowed : ℕ) (strict : Bool) (says : ModifierKind → Option ℕ →
       ∙ ap (λ k. disallowed_reports allowed strict says (take i ms) ++ k) (append-nil (one (get_or ms i d)))
 
   -- a keyword as a walk hands it out
-  handed : (m : Placed) (e : Modifier) → m ≡ placed e → one e ≡ report_unless (member allowed (modifier_number m.kind)) (said_of (says m.kind (given strict allowed)) m.kind (record { start = m.start; end = m.end }))
+  handed : (m : Placed) (e : Modifier) → m ≡ placed e → one e ≡ report_unless (member allowed (modifier_number m.kind)) (said_of (says m.kind (given strict allowed)) m.kind m.place)
   handed m e h = rw h
 
   pub checked_more : (ms : List Modifier) (i : ℕ) (m : Placed) {l l' l'' : Held Report} → (i < length (map placed ms)) × (m ≡ get_or (map placed ms) i m) → Noted l l' (disallowed_reports allowed strict says (take i ms))
-      → Noted l' l'' (report_unless (member allowed (modifier_number m.kind)) (said_of (says m.kind (given strict allowed)) m.kind (record { start = m.start; end = m.end })))
+      → Noted l' l'' (report_unless (member allowed (modifier_number m.kind)) (said_of (says m.kind (given strict allowed)) m.kind m.place))
       → Noted l l'' (disallowed_reports allowed strict says (take (i + 1) ms))
   checked_more ms i m {l} {l'} {l''} h x y =
       let d = word_at Declare 0 in

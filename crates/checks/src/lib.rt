@@ -1,6 +1,6 @@
 //! Checks of a keyword list: each kept kind that a check does not allow is reported once, at its last occurrence, by
-//! ascending start. The checks of class members stand here as a table. This crate does not know which member reaches
-//! which check.
+//! ascending start. The checks of class members stand here by name, each with its allowed set and its wording. This crate
+//! does not know which member reaches which check.
 
 #![tactic(auto)]
 

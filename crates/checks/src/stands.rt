@@ -5,8 +5,9 @@ ghost use Rattle.std.specs.Prelude.{◌≡◌};
 
 const STANDS: u8 = 0;
 
-// It answers a constant, since the laws stand in its contract.
-/// What holds of every check, and of the checks of class members by their table.
+/// What holds of every check, and of the checks of class members by name.
+// The laws stand in the contract of a call. It answers a number and not `()`, since its must-fail edit changes that
+// number, which shows that the contract is checked.
 pub fn checks_stand() -> u8
     ensures stands { result ≡ 0 }
     ensures once { ChecksStand }

@@ -14,10 +14,9 @@ use crate::wording::Wording;
 use kinds::ModifierKinds;
 use list::list::List;
 use modifiers::{Modifiers, Placed};
-use parts::Span;
 use reports::Report;
 
-// A flag beside the set, which is asked also where the wording is not told it.
+// A flag beside the set and no `Option` of it: every check asks the set, and only a strict one tells it.
 /// The kinds that are allowed, whether just these are (so that the wording is told them), and what is said of others.
 #[derive(Drop)]
 pub struct Check<W> {
@@ -28,17 +27,13 @@ pub struct Check<W> {
 
 // Reports one keyword, if it is outside the allowed set.
 fn verify_one<W: Wording>(m: Placed, check: &Check<W>, reports: &mut List<'_, Report>)
-    ensures { Noted reports.old reports.new (report_unless (member check.now.allowed.bits (modifier_number m.kind)) (said_of (W.Wording.says check.now.wording m.kind (given check.now.strict check.now.allowed.bits)) m.kind (record { start = m.start; end = m.end }))) }
+    ensures { Noted reports.old reports.new (report_unless (member check.now.allowed.bits (modifier_number m.kind)) (said_of (W.Wording.says check.now.wording m.kind (given check.now.strict check.now.allowed.bits)) m.kind m.place)) }
 {
     if check.allowed.contains(m.kind) {
         return;
     }
     let allowed = check.strict.then_some(check.allowed);
-    let place = Span {
-        start: m.start,
-        end: m.end,
-    };
-    reports.push(check.wording.word(m.kind, place, allowed));
+    reports.push(check.wording.word(m.kind, m.place, allowed));
 }
 
 /// Reports each kept kind outside the allowed set.

@@ -12,36 +12,38 @@ use Rattle.parts.specs.declared.MethodFacts.{MethodFacts}
 use Rattle.parts.specs.declared.Part.TheVariants.{Block, IndexRest}
 use Rattle.parts.specs.declared.Span.{Span}
 use Rattle.records.specs.declared.record.Form.{Form}
-use Rattle.records.specs.declared.record.Form.TheVariants.{Getter, Setter, Constructor as AConstructor, Method as AMethod, IndexSignature as AnIndex, StaticBlock as ABlock}
+use Rattle.records.specs.declared.record.Form.TheVariants.{Getter as AGetter, Setter as ASetter, Constructor as AConstructor, Method as AMethod, IndexSignature as AnIndex, StaticBlock as ABlock}
 use Rattle.records.specs.declared.record.Method.{Method as Facts}
 use Rattle.class.specs.Decorating.{decorator_reports}
 use Rattle.class.specs.Methods.{accessor_reports, constructor_reports, is_ambient, method_of, plain_reports}
 use Rattle.class.specs.Naming.{name_d}
 use Rattle.class.specs.Taking.{method_d, part_d}
 use Rattle.token.specs.Spans.{span_of}
+use Rattle.class.specs.declared.judging.AccessorKind.{AccessorKind}
+use Rattle.class.specs.declared.judging.AccessorKind.TheVariants.{Getter, Setter}
 use Rattle.class.specs.declared.naming.ReadName.{ReadName}
 
 -- what no member has: `export` and `default`; in JavaScript, a keyword of TypeScript
 unfoldable pub element_checks_d : Bool → List Modifier → Dialogue Unit
 element_checks_d ts ms = check Element ms (test ts (done tt) (check JavaScript ms (done tt)))
 
-abbrev pub accessor_form : Bool → Facts → Form
-accessor_form true m = Getter m
-accessor_form false m = Setter m
+abbrev pub accessor_form : AccessorKind → Facts → Form
+accessor_form Getter m = AGetter m
+accessor_form Setter m = ASetter m
 
 -- a getter or a setter that was read
-unfoldable pub accessor_end_d : Bool → ℕ → List Modifier → Bool → ReadName → MethodFacts → Dialogue Form
-accessor_end_d ts c ms getter n f =
-    note (accessor_reports ts getter (is_ambient c) n.special (method_of n ms false false f))
-    (check Accessor ms (done (accessor_form getter (method_of n ms false false f))))
+unfoldable pub accessor_end_d : Bool → ℕ → List Modifier → AccessorKind → ReadName → MethodFacts → Dialogue Form
+accessor_end_d ts c ms kind n f =
+    note (accessor_reports ts kind (is_ambient c) n.special (method_of n ms false false f))
+    (check Accessor ms (done (accessor_form kind (method_of n ms false false f))))
 
 -- after its name
-unfoldable pub accessor_rest_d : Bool → ℕ → List Modifier → Bool → ReadName → Dialogue Form
-accessor_rest_d ts c ms getter n = then (method_d c) (accessor_end_d ts c ms getter n)
+unfoldable pub accessor_rest_d : Bool → ℕ → List Modifier → AccessorKind → ReadName → Dialogue Form
+accessor_rest_d ts c ms kind n = then (method_d c) (accessor_end_d ts c ms kind n)
 
 -- after `get` or `set`
-unfoldable pub accessor_d : Bool → ℕ → List Modifier → Bool → Dialogue Form
-accessor_d ts c ms getter = then (element_checks_d ts ms) (λ _. then (name_d ts c ms) (accessor_rest_d ts c ms getter))
+unfoldable pub accessor_d : Bool → ℕ → List Modifier → AccessorKind → Dialogue Form
+accessor_d ts c ms kind = then (element_checks_d ts ms) (λ _. then (name_d ts c ms) (accessor_rest_d ts c ms kind))
 
 -- a constructor that was read
 unfoldable pub constructor_end_d : ℕ → List Modifier → ReadName → MethodFacts → Dialogue Form

@@ -23,6 +23,7 @@ use Rattle.class.specs.Forms.{accessor_d, block_d, constructor_d, element_checks
 use Rattle.class.specs.Naming.{is_constructor_name, named, special_of}
 use Rattle.class.specs.Properties.{property_or_method_d}
 use Rattle.class.specs.Taking.{decorators_d, is_kind}
+use Rattle.class.specs.declared.judging.AccessorKind.TheVariants.{Getter as AGetter, Setter as ASetter}
 use Rattle.class.specs.declared.naming.ReadName.{ReadName}
 
 -- what a property or a method starts with: a name of any sort, `*` or `[`
@@ -57,8 +58,8 @@ is_accessor k t n = is_kind k t.kind.code && can_follow_get_or_set n.kind.code
 
 unfoldable pub accessor_or_other_d : Bool → ℕ → List Modifier → List Span → Token → Token → Dialogue Form
 accessor_or_other_d ts c ms ds t n =
-    test (is_accessor k_get t n) (taken_d (accessor_d ts c ms true))
-    (test (is_accessor k_set t n) (taken_d (accessor_d ts c ms false)) (constructor_or_other_d ts c ms ds t n))
+    test (is_accessor k_get t n) (taken_d (accessor_d ts c ms AGetter))
+    (test (is_accessor k_set t n) (taken_d (accessor_d ts c ms ASetter)) (constructor_or_other_d ts c ms ds t n))
 
 -- `static` before `{`
 abbrev pub is_block : Token → Token → Bool

@@ -15,6 +15,9 @@ use Rattle.reports.specs.Reports.{at_place}
 use Rattle.reports.specs.declared.Report.{Report}
 use Rattle.small_set.specs.Members.{member}
 use Rattle.class.specs.Noting.{report_at, report_if}
+use Rattle.class.specs.declared.judging.AccessorKind.{AccessorKind}
+use Rattle.class.specs.declared.judging.AccessorKind.TheVariants.{Getter, Setter}
+use Rattle.class.specs.declared.judging.Judged.{Judged}
 use Rattle.class.specs.declared.naming.ReadName.{ReadName}
 use Rattle.class.specs.declared.naming.SpecialName.{SpecialName}
 use Rattle.class.specs.declared.naming.SpecialName.TheVariants.{Constructor, Prototype}
@@ -45,17 +48,21 @@ method_of n ms opt star facts =
       facts = facts;
     }
 
+-- a method of a name in a context, by its bits
+abbrev pub judge : Method → ReadName → ℕ → Judged
+judge m n c = record { method = m; ambient = is_ambient c; special = n.special }
+
 -- a member with the PropName `constructor` that is not static: 39 to 43
-abbrev pub constructor_name_reports : Bool → Method → List Report
+abbrev pub constructor_name_reports : Option AccessorKind → Method → List Report
 constructor_name_reports accessor m =
-    report_if accessor 39 m.name.span
+    report_if (is_some accessor) 39 m.name.span
     ++ (report_if m.is_async 40 m.name.span
     ++ (report_if m.generator 41 m.name.span
     ++ (report_if m.is_abstract 42 m.name.span
-    ++ report_at 43 (cond accessor None m.facts.type_parameters))))
+    ++ report_at 43 (cond (is_some accessor) None m.facts.type_parameters))))
 
 -- what its PropName earns: 28 where it is static, 39 to 43 where it is not
-abbrev pub prop_name_reports : Bool → Bool → Option SpecialName → Method → List Report
+abbrev pub prop_name_reports : Option AccessorKind → Bool → Option SpecialName → Method → List Report
 prop_name_reports accessor ambient None m = []
 prop_name_reports accessor ambient (Some Constructor) m = cond m.is_static [] (constructor_name_reports accessor m)
 prop_name_reports accessor ambient (Some Prototype) m = cond m.is_static (report_if (not ambient) 28 m.name.span) []
@@ -70,7 +77,7 @@ body_reports ambient None = []
 body_reports ambient (Some n) = report_if ambient 44 (empty_at n)
 
 -- what every method earns, also a getter, a setter and a constructor
-unfoldable pub method_reports : Bool → Bool → Option SpecialName → Method → List Report
+unfoldable pub method_reports : Option AccessorKind → Bool → Option SpecialName → Method → List Report
 method_reports accessor ambient special m =
     report_if (m.is_abstract && is_private m.name.kind) 29 m.name.span
     ++ (prop_name_reports accessor ambient special m ++ body_reports ambient m.facts.body_start)
@@ -105,12 +112,14 @@ setter_reports ts None f = cond (f.count == 1) (rest_reports ts f.rest f) (at_pl
 abbrev pub abstract_reports : ℕ → Method → List Report
 abstract_reports rule m = report_if (m.is_abstract && is_some m.facts.body_start) rule m.name.span
 
+-- what the type parameters and the parameters of a getter or a setter earn
+abbrev pub parameter_reports : Bool → AccessorKind → MethodFacts → List Report
+parameter_reports ts Getter f = getter_reports f.type_parameters f
+parameter_reports ts Setter f = setter_reports ts f.type_parameters f
+
 -- what a getter or a setter earns
-unfoldable pub accessor_reports : Bool → Bool → Bool → Option SpecialName → Method → List Report
-accessor_reports ts getter ambient special m =
-    method_reports true ambient special m
-    ++ (cond getter (getter_reports m.facts.type_parameters m.facts) (setter_reports ts m.facts.type_parameters m.facts)
-    ++ abstract_reports 45 m)
+unfoldable pub accessor_reports : Bool → AccessorKind → Bool → Option SpecialName → Method → List Report
+accessor_reports ts kind ambient special m = method_reports (Some kind) ambient special m ++ (parameter_reports ts kind m.facts ++ abstract_reports 45 m)
 
 -- the type that a return annotation tells
 abbrev pub type_in : Option ReturnType → Option Span
@@ -119,8 +128,8 @@ type_in (Some r) = Some r.type_span
 
 -- what a constructor earns: also 47 for a `this` parameter and 48 for a return type
 unfoldable pub constructor_reports : Bool → Option SpecialName → Method → List Report
-constructor_reports ambient special m = method_reports false ambient special m ++ (report_at 47 m.facts.this_param ++ report_at 48 (type_in m.facts.return_type))
+constructor_reports ambient special m = method_reports None ambient special m ++ (report_at 47 m.facts.this_param ++ report_at 48 (type_in m.facts.return_type))
 
 -- what any other method earns
 unfoldable pub plain_reports : Bool → Option SpecialName → Method → List Report
-plain_reports ambient special m = method_reports false ambient special m ++ abstract_reports 46 m
+plain_reports ambient special m = method_reports None ambient special m ++ abstract_reports 46 m

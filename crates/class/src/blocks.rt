@@ -1,8 +1,7 @@
 //! Static blocks and index signatures.
 
-ghost use Rattle.std.specs.Prelude.{◌≡◌};
 ghost use Rattle.class.specs.Forms.{block_d, index_d};
-ghost use Rattle.class.specs.Reading.{Kept, Reads};
+ghost use Rattle.class.specs.Reading.{Reads, ReadsIn};
 ghost use Rattle.modifiers.specs.Lists.{entries};
 ghost use Rattle.records.specs.Decorators.{spans_of};
 
@@ -24,8 +23,7 @@ use script::ScriptReader;
 impl<S: ScriptReader> Reading<'_, '_, S> {
     /// Reads an index signature.
     pub(crate) fn read_index(&mut self, context: Context, before: Before) -> Result<Form, Fatal>
-        ensures spoke { Reads S.TokenReader (index_d context.bits (entries before.modifiers) (spans_of before.decorators)) self.old self.new result }
-        ensures kept { Kept self.old self.new }
+        ensures { Reads S.TokenReader (index_d context.bits (entries before.modifiers) (spans_of before.decorators)) self.old self.new result }
     {
         note_decorators(
             Rule::DecoratorsNotValidHere,
@@ -47,9 +45,7 @@ impl<S: ScriptReader> Reading<'_, '_, S> {
         context: &mut Context,
         before: Before,
     ) -> Result<Form, Fatal>
-        ensures spoke { Reads S.TokenReader (block_d context.old.bits (entries before.modifiers) (spans_of before.decorators)) self.old self.new result }
-        ensures context { context.new ≡ context.old }
-        ensures kept { Kept self.old self.new }
+        ensures { ReadsIn S.TokenReader (block_d context.old.bits (entries before.modifiers) (spans_of before.decorators)) self.old self.new context.old context.new result }
     {
         note_decorators(
             Rule::DecoratorsNotValidHere,

@@ -9,7 +9,7 @@ ghost use Rattle.reader.specs.Scenes.{scene};
 ghost use Rattle.records.specs.Decorators.{spans_of};
 ghost use Rattle.rules.specs.Rules.{rule_number};
 
-use crate::noting::{note, note_fatal};
+use crate::noting::{note, stop};
 use crate::taking::{is, take_part};
 use dialogue::Fatal;
 use kinds::context::Context;
@@ -45,8 +45,7 @@ pub(crate) fn take_decorators<S: ScriptReader>(
     while is(script.current(), Kind::AT) {
         if decorators.len() == MOST {
             let place = Span::from(script.current());
-            note_fatal(Fatal::TooManyDecorators, place, reports);
-            return Err(Fatal::TooManyDecorators);
+            return stop(Fatal::TooManyDecorators, place, reports);
         }
         let span = take_part(script, Part::Decorator, context, reports)?;
         decorators.push(span);

@@ -1,18 +1,16 @@
 //! Which form of a member stands there.
 
 ghost use Rattle.std.specs.Prelude.{◌≡◌};
-ghost use Rattle.class.specs.Members.{accessor_or_other_d, constructor_name, constructor_or_other_d, form_d, index_or_named_d, is_accessor, is_block, is_constructor, named_form_d, starts_name};
-ghost use Rattle.class.specs.Properties.{property_or_method_d};
-ghost use Rattle.class.specs.Reading.{Kept, Reads};
-ghost use Rattle.guard.specs.Changes.{changed_bits};
-ghost use Rattle.guard.specs.declared.change.Change.TheVariants.{Ambient};
+ghost use Rattle.class.specs.Members.{constructor_name, form_d, index_or_named_d, is_accessor, is_block, is_constructor, named_form_d, starts_name};
+ghost use Rattle.class.specs.Reading.{ReadsIn};
 ghost use Rattle.modifiers.specs.Lists.{entries};
 ghost use Rattle.records.specs.Decorators.{spans_of};
 
 use crate::decorating::Before;
+use crate::judging::AccessorKind;
 use crate::methods::check_element;
 use crate::naming::{ReadName, SpecialName, name_at, special_name};
-use crate::noting::note_fatal;
+use crate::noting::stop;
 use crate::reading::Reading;
 use crate::taking::{is, take};
 use dialogue::Fatal;
@@ -69,39 +67,26 @@ fn is_block(t: Token, next: Token) -> bool
 }
 
 impl<S: ScriptReader> Reading<'_, '_, S> {
-    fn read_ambient(&mut self, context: &mut Context, modifiers: Modifiers) -> Result<Form, Fatal>
-        ensures spoke { Reads S.TokenReader (property_or_method_d self.old.is_ts (changed_bits Ambient context.old.bits) (entries modifiers)) self.old self.new result }
-        ensures context { context.new ≡ context.old }
-        ensures kept { Kept self.old self.new }
-    {
-        let guard = within(context, Change::Ambient);
-        self.read_property_or_method(&mut *guard.context, modifiers)
-    }
-
     fn read_named_form(
         &mut self,
         context: &mut Context,
         modifiers: Modifiers,
     ) -> Result<Form, Fatal>
-        ensures spoke { Reads S.TokenReader (named_form_d self.old.is_ts context.old.bits (entries modifiers)) self.old self.new result }
-        ensures context { context.new ≡ context.old }
-        ensures kept { Kept self.old self.new }
+        ensures { ReadsIn S.TokenReader (named_form_d self.old.is_ts context.old.bits (entries modifiers)) self.old self.new context.old context.new result }
     {
         let t = self.script.current();
         if !starts_name(t) {
-            note_fatal(Fatal::Unexpected, Span::from(t), self.reports);
-            return Err(Fatal::Unexpected);
+            return stop(Fatal::Unexpected, Span::from(t), self.reports);
         }
         if modifiers.contains(ModifierKind::Declare) {
-            return self.read_ambient(context, modifiers);
+            let guard = within(context, Change::Ambient);
+            return self.read_property_or_method(&mut *guard.context, modifiers);
         }
         self.read_property_or_method(context, modifiers)
     }
 
     fn read_index_or_named(&mut self, context: &mut Context, before: Before) -> Result<Form, Fatal>
-        ensures spoke { Reads S.TokenReader (index_or_named_d self.old.is_ts context.old.bits (entries before.modifiers) (spans_of before.decorators)) self.old self.new result }
-        ensures context { context.new ≡ context.old }
-        ensures kept { Kept self.old self.new }
+        ensures { ReadsIn S.TokenReader (index_or_named_d self.old.is_ts context.old.bits (entries before.modifiers) (spans_of before.decorators)) self.old self.new context.old context.new result }
     {
         let here = *context;
         if self.script.starts_index(here) {
@@ -111,61 +96,27 @@ impl<S: ScriptReader> Reading<'_, '_, S> {
         self.read_named_form(context, before.modifiers)
     }
 
-    // The two tokens are looked at once and handed on as they are: a struct of them would say no more.
-    fn read_constructor_or_other(
-        &mut self,
-        context: &mut Context,
-        before: Before,
-        t: Token,
-        next: Token,
-    ) -> Result<Form, Fatal>
-        ensures spoke { Reads S.TokenReader (constructor_or_other_d self.old.is_ts context.old.bits (entries before.modifiers) (spans_of before.decorators) t next) self.old self.new result }
-        ensures context { context.new ≡ context.old }
-        ensures kept { Kept self.old self.new }
-    {
-        if is_constructor(before.modifiers, t, next) {
-            take(self.script);
-            let name = constructor_name(t);
-            return self.read_constructor(*context, before, name);
-        }
-        self.read_index_or_named(context, before)
-    }
-
-    fn read_accessor_or_other(
-        &mut self,
-        context: &mut Context,
-        before: Before,
-        t: Token,
-        next: Token,
-    ) -> Result<Form, Fatal>
-        ensures spoke { Reads S.TokenReader (accessor_or_other_d self.old.is_ts context.old.bits (entries before.modifiers) (spans_of before.decorators) t next) self.old self.new result }
-        ensures context { context.new ≡ context.old }
-        ensures kept { Kept self.old self.new }
-    {
-        let is_getter = is_accessor(Kind::GET, t, next);
-        if is_getter {
-            take(self.script);
-            return self.read_accessor(context, before.modifiers, true);
-        }
-        let is_setter = is_accessor(Kind::SET, t, next);
-        if is_setter {
-            take(self.script);
-            return self.read_accessor(context, before.modifiers, false);
-        }
-        self.read_constructor_or_other(context, before, t, next)
-    }
-
     /// Reads a member after its decorators and keywords.
     pub(crate) fn read_form(&mut self, context: &mut Context, before: Before) -> Result<Form, Fatal>
-        ensures spoke { Reads S.TokenReader (form_d self.old.is_ts context.old.bits (entries before.modifiers) (spans_of before.decorators)) self.old self.new result }
-        ensures context { context.new ≡ context.old }
-        ensures kept { Kept self.old self.new }
+        ensures { ReadsIn S.TokenReader (form_d self.old.is_ts context.old.bits (entries before.modifiers) (spans_of before.decorators)) self.old self.new context.old context.new result }
     {
         let t = self.script.current();
         let next = self.script.peek(Ahead::One);
         if is_block(t, next) {
             return self.read_block(context, before);
         }
-        self.read_accessor_or_other(context, before, t, next)
+        if is_accessor(Kind::GET, t, next) {
+            take(self.script);
+            return self.read_accessor(context, before.modifiers, AccessorKind::Getter);
+        }
+        if is_accessor(Kind::SET, t, next) {
+            take(self.script);
+            return self.read_accessor(context, before.modifiers, AccessorKind::Setter);
+        }
+        if is_constructor(before.modifiers, t, next) {
+            take(self.script);
+            return self.read_constructor(*context, before, constructor_name(t));
+        }
+        self.read_index_or_named(context, before)
     }
 }

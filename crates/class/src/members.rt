@@ -2,7 +2,7 @@
 
 ghost use Rattle.std.specs.Prelude.{◌≡◌, Some, Ok};
 ghost use Rattle.class.specs.Members.{decorated_d, decorators_if, holds_decorators, is_bodiless, member_d, member_end_d, told_in};
-ghost use Rattle.class.specs.Reading.{Kept, Reads};
+ghost use Rattle.class.specs.Reading.{ReadsIn};
 ghost use Rattle.dialogue.specs.Spoken.{Spoke};
 ghost use Rattle.modifiers.specs.Lists.{entries};
 ghost use Rattle.reader.specs.Scenes.{scene};
@@ -83,9 +83,7 @@ impl<S: ScriptReader> Reading<'_, '_, S> {
         start: u32,
         decorators: Decorators,
     ) -> Result<Option<MemberRecord>, Fatal>
-        ensures spoke { Reads S.TokenReader (decorated_d self.old.is_ts context.old.bits start (spans_of decorators)) self.old self.new (told_in result) }
-        ensures context { context.new ≡ context.old }
-        ensures kept { Kept self.old self.new }
+        ensures { ReadsIn S.TokenReader (decorated_d self.old.is_ts context.old.bits start (spans_of decorators)) self.old self.new context.old context.new (told_in result) }
     {
         let before = Before {
             decorators,
@@ -97,6 +95,7 @@ impl<S: ScriptReader> Reading<'_, '_, S> {
 }
 
 /// Reads a member, or none before `}`.
+// `is_ts` is a flag: a member only asks whether the script is TypeScript, and the session has the language's name.
 pub fn read_member<S: ScriptReader>(
     script: &mut S,
     is_ts: bool,

@@ -1,22 +1,21 @@
 //! Getters, setters, constructors and other methods.
 
 ghost use Rattle.std.specs.Prelude.{◌≡◌, Ok};
-ghost use Rattle.class.specs.Forms.{accessor_d, accessor_end_d, accessor_form, accessor_rest_d, constructor_d, constructor_end_d, constructor_rest_d, element_checks_d, method_end_d, method_form_d};
-ghost use Rattle.class.specs.Reading.{Kept, Reads};
+ghost use Rattle.class.specs.Forms.{accessor_d, accessor_end_d, accessor_form, constructor_d, constructor_end_d, element_checks_d, method_end_d, method_form_d};
+ghost use Rattle.class.specs.Reading.{Reads, ReadsIn};
 ghost use Rattle.dialogue.specs.Spoken.{Spoke};
 ghost use Rattle.modifiers.specs.Lists.{entries};
 ghost use Rattle.reader.specs.Scenes.{Scene};
 ghost use Rattle.records.specs.Decorators.{spans_of};
 
 use crate::decorating::{Before, note_decorators};
-use crate::judging::{method_of, note_accessor, note_constructor, note_plain};
+use crate::judging::{AccessorKind, judge, method_of, note_accessor, note_constructor, note_plain};
 use crate::naming::ReadName;
 use crate::reading::Reading;
-use crate::taking::take_method;
 use checks::class_check::ClassCheck;
 use checks::class_checks::run_check;
 use dialogue::Fatal;
-use kinds::context::{Context, ContextFlag};
+use kinds::context::Context;
 use list::list::List;
 use modifiers::Modifiers;
 use parts::MethodFacts;
@@ -37,32 +36,31 @@ pub(crate) fn check_element(is_ts: bool, modifiers: Modifiers, reports: &mut Lis
     run_check(ClassCheck::JavaScript, modifiers, reports);
 }
 
-fn accessor_form(getter: bool, m: Method) -> Form
-    ensures { result ≡ accessor_form getter m }
+fn accessor_form(kind: AccessorKind, m: Method) -> Form
+    ensures { result ≡ accessor_form kind m }
 {
-    if getter {
-        Form::Getter(m)
-    } else {
-        Form::Setter(m)
+    match kind {
+        AccessorKind::Getter => Form::Getter(m),
+        AccessorKind::Setter => Form::Setter(m),
     }
 }
 
+// As in the last step of its dialogue, and so for the other two: what has come of the pieces goes in one by one.
 fn end_accessor(
     is_ts: bool,
     context: Context,
     modifiers: Modifiers,
-    getter: bool,
+    kind: AccessorKind,
     name: ReadName,
     facts: MethodFacts,
     reports: &mut List<'_, Report>,
 ) -> Form
-    ensures { (s : Scene) → Spoke (accessor_end_d is_ts context.bits (entries modifiers) getter name facts) s s reports.old reports.new (Ok result) }
+    ensures { (s : Scene) → Spoke (accessor_end_d is_ts context.bits (entries modifiers) kind name facts) s s reports.old reports.new (Ok result) }
 {
     let m = method_of(name, modifiers, false, false, facts);
-    let ambient = context.contains(ContextFlag::Ambient);
-    note_accessor(is_ts, getter, ambient, name.special, m, reports);
+    note_accessor(is_ts, kind, judge(m, name, context), reports);
     run_check(ClassCheck::Accessor, modifiers, reports);
-    accessor_form(getter, m)
+    accessor_form(kind, m)
 }
 
 fn end_constructor(
@@ -75,8 +73,7 @@ fn end_constructor(
     ensures { (s : Scene) → Spoke (constructor_end_d context.bits (entries modifiers) name facts) s s reports.old reports.new (Ok result) }
 {
     let m = method_of(name, modifiers, false, false, facts);
-    let ambient = context.contains(ContextFlag::Ambient);
-    note_constructor(ambient, name.special, m, reports);
+    note_constructor(judge(m, name, context), reports);
     Form::Constructor(m)
 }
 
@@ -92,62 +89,25 @@ fn end_method(
     ensures { (s : Scene) → Spoke (method_end_d context.bits (entries modifiers) optional generator name facts) s s reports.old reports.new (Ok result) }
 {
     let m = method_of(name, modifiers, optional, generator, facts);
-    let ambient = context.contains(ContextFlag::Ambient);
-    note_plain(ambient, name.special, m, reports);
+    note_plain(judge(m, name, context), reports);
     Form::Method(m)
 }
 
 impl<S: ScriptReader> Reading<'_, '_, S> {
-    fn read_accessor_rest(
-        &mut self,
-        context: Context,
-        modifiers: Modifiers,
-        getter: bool,
-        name: ReadName,
-    ) -> Result<Form, Fatal>
-        ensures spoke { Reads S.TokenReader (accessor_rest_d self.old.is_ts context.bits (entries modifiers) getter name) self.old self.new result }
-        ensures kept { Kept self.old self.new }
-    {
-        let facts = take_method(self.script, context, self.reports)?;
-        Ok(end_accessor(
-            self.is_ts,
-            context,
-            modifiers,
-            getter,
-            name,
-            facts,
-            self.reports,
-        ))
-    }
-
     /// Reads a getter or a setter after its keyword.
     pub(crate) fn read_accessor(
         &mut self,
         context: &mut Context,
         modifiers: Modifiers,
-        getter: bool,
+        kind: AccessorKind,
     ) -> Result<Form, Fatal>
-        ensures spoke { Reads S.TokenReader (accessor_d self.old.is_ts context.old.bits (entries modifiers) getter) self.old self.new result }
-        ensures context { context.new ≡ context.old }
-        ensures kept { Kept self.old self.new }
+        ensures { ReadsIn S.TokenReader (accessor_d self.old.is_ts context.old.bits (entries modifiers) kind) self.old self.new context.old context.new result }
     {
         check_element(self.is_ts, modifiers, self.reports);
         let here = *context;
         let name = self.read_name(context, modifiers)?;
-        self.read_accessor_rest(here, modifiers, getter, name)
-    }
-
-    fn read_constructor_rest(
-        &mut self,
-        context: Context,
-        modifiers: Modifiers,
-        name: ReadName,
-    ) -> Result<Form, Fatal>
-        ensures spoke { Reads S.TokenReader (constructor_rest_d context.bits (entries modifiers) name) self.old self.new result }
-        ensures kept { Kept self.old self.new }
-    {
-        let facts = take_method(self.script, context, self.reports)?;
-        Ok(end_constructor(context, modifiers, name, facts, self.reports))
+        let facts = self.take_method(here)?;
+        Ok(end_accessor(self.is_ts, here, modifiers, kind, name, facts, self.reports))
     }
 
     /// Reads a constructor after its name.
@@ -157,8 +117,7 @@ impl<S: ScriptReader> Reading<'_, '_, S> {
         before: Before,
         name: ReadName,
     ) -> Result<Form, Fatal>
-        ensures spoke { Reads S.TokenReader (constructor_d self.old.is_ts context.bits (entries before.modifiers) (spans_of before.decorators) name) self.old self.new result }
-        ensures kept { Kept self.old self.new }
+        ensures { Reads S.TokenReader (constructor_d self.old.is_ts context.bits (entries before.modifiers) (spans_of before.decorators) name) self.old self.new result }
     {
         note_decorators(
             Rule::DecoratorsNotValidHere,
@@ -168,7 +127,8 @@ impl<S: ScriptReader> Reading<'_, '_, S> {
         check_element(self.is_ts, before.modifiers, self.reports);
         run_check(ClassCheck::ConstInOut, before.modifiers, self.reports);
         run_check(ClassCheck::Constructor, before.modifiers, self.reports);
-        self.read_constructor_rest(context, before.modifiers, name)
+        let facts = self.take_method(context)?;
+        Ok(end_constructor(context, before.modifiers, name, facts, self.reports))
     }
 
     /// Reads any other method after its name.
@@ -180,11 +140,10 @@ impl<S: ScriptReader> Reading<'_, '_, S> {
         generator: bool,
         name: ReadName,
     ) -> Result<Form, Fatal>
-        ensures spoke { Reads S.TokenReader (method_form_d context.bits (entries modifiers) optional generator name) self.old self.new result }
-        ensures kept { Kept self.old self.new }
+        ensures { Reads S.TokenReader (method_form_d context.bits (entries modifiers) optional generator name) self.old self.new result }
     {
         run_check(ClassCheck::Method, modifiers, self.reports);
-        let facts = take_method(self.script, context, self.reports)?;
+        let facts = self.take_method(context)?;
         Ok(end_method(
             context,
             modifiers,

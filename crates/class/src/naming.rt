@@ -2,12 +2,12 @@
 
 ghost use Rattle.std.specs.Prelude.{◌≡◌, Ok};
 ghost use Rattle.class.specs.Naming.{closed_d, computed_d, name_d, named, private_d, private_name_d, property_name_d, special_of};
-ghost use Rattle.class.specs.Reading.{Kept, Reads};
+ghost use Rattle.class.specs.Reading.{Reads, ReadsIn};
 ghost use Rattle.dialogue.specs.Spoken.{Spoke};
 ghost use Rattle.modifiers.specs.Lists.{entries};
-ghost use Rattle.reader.specs.Scenes.{Scene, scene};
+ghost use Rattle.reader.specs.Scenes.{Scene};
 
-use crate::noting::{note_fatal, note_if};
+use crate::noting::{note_if, stop};
 use crate::reading::Reading;
 use crate::taking::{is, take};
 use checks::class_check::ClassCheck;
@@ -60,23 +60,6 @@ pub(crate) fn name_at(kind: NameKind, span: Span, special: Option<SpecialName>) 
     }
 }
 
-// Takes `]` after the expression of a computed name.
-fn close_name<S: ScriptReader>(
-    script: &mut S,
-    span: Span,
-    reports: &mut List<'_, Report>,
-) -> Result<ReadName, Fatal>
-    ensures { Spoke (closed_d span) (scene S.TokenReader script.old) (scene S.TokenReader script.new) reports.old reports.new result }
-{
-    let t = script.current();
-    if is(t, Kind::RBRACK) {
-        take(script);
-        return Ok(name_at(NameKind::Computed, span, None));
-    }
-    note_fatal(Fatal::ExpectToken, Span::from(t), reports);
-    Err(Fatal::ExpectToken)
-}
-
 // Notes what a private name earns, and answers it.
 fn note_private(t: Token, reports: &mut List<'_, Report>) -> ReadName
     ensures { (s : Scene) → Spoke (private_name_d t) s s reports.old reports.new (Ok result) }
@@ -104,21 +87,29 @@ fn check_private(
 }
 
 impl<S: ScriptReader> Reading<'_, '_, S> {
+    // Takes `]` after the expression of a computed name.
+    fn close_name(&mut self, span: Span) -> Result<ReadName, Fatal>
+        ensures { Reads S.TokenReader (closed_d span) self.old self.new result }
+    {
+        let t = self.script.current();
+        if is(t, Kind::RBRACK) {
+            take(self.script);
+            return Ok(name_at(NameKind::Computed, span, None));
+        }
+        stop(Fatal::ExpectToken, Span::from(t), self.reports)
+    }
+
     // Reads a computed name after `[`.
     fn read_computed(&mut self, context: &mut Context) -> Result<ReadName, Fatal>
-        ensures spoke { Reads S.TokenReader (computed_d context.old.bits) self.old self.new result }
-        ensures context { context.new ≡ context.old }
-        ensures kept { Kept self.old self.new }
+        ensures { ReadsIn S.TokenReader (computed_d context.old.bits) self.old self.new context.old context.new result }
     {
         let span = self.take_under(Part::Expression, context, Change::ComputedName)?;
-        close_name(self.script, span, self.reports)
+        self.close_name(span)
     }
 
     // Reads a name that is not private.
     fn read_property_name(&mut self, context: &mut Context) -> Result<ReadName, Fatal>
-        ensures spoke { Reads S.TokenReader (property_name_d context.old.bits) self.old self.new result }
-        ensures context { context.new ≡ context.old }
-        ensures kept { Kept self.old self.new }
+        ensures { ReadsIn S.TokenReader (property_name_d context.old.bits) self.old self.new context.old context.new result }
     {
         let t = self.script.current();
         if is(t, Kind::STR) {
@@ -137,8 +128,7 @@ impl<S: ScriptReader> Reading<'_, '_, S> {
             take(self.script);
             return Ok(name_at(NameKind::Identifier, Span::from(t), special_name(t)));
         }
-        note_fatal(Fatal::Unexpected, Span::from(t), self.reports);
-        Err(Fatal::Unexpected)
+        stop(Fatal::Unexpected, Span::from(t), self.reports)
     }
 
     /// Reads the name of a member.
@@ -147,9 +137,7 @@ impl<S: ScriptReader> Reading<'_, '_, S> {
         context: &mut Context,
         modifiers: Modifiers,
     ) -> Result<ReadName, Fatal>
-        ensures spoke { Reads S.TokenReader (name_d self.old.is_ts context.old.bits (entries modifiers)) self.old self.new result }
-        ensures context { context.new ≡ context.old }
-        ensures kept { Kept self.old self.new }
+        ensures { ReadsIn S.TokenReader (name_d self.old.is_ts context.old.bits (entries modifiers)) self.old self.new context.old context.new result }
     {
         run_check(ClassCheck::ConstInOut, modifiers, self.reports);
         let t = self.script.current();

@@ -2,8 +2,10 @@
 
 ghost use Rattle.std.specs.Prelude.{[], ◌∷◌};
 ghost use Rattle.class.specs.Noting.{report_at, report_if};
-ghost use Rattle.dialogue.specs.Fatal.{fatal_number};
+ghost use Rattle.dialogue.specs.Dialogues.{stop};
+ghost use Rattle.dialogue.specs.Spoken.{Spoke};
 ghost use Rattle.list.specs.Lists.{Noted};
+ghost use Rattle.reader.specs.Scenes.{Scene};
 ghost use Rattle.reports.specs.Reports.{at_place};
 ghost use Rattle.rules.specs.Rules.{rule_number};
 
@@ -13,18 +15,19 @@ use parts::Span;
 use reports::Report;
 use rules::Rule;
 
-/// Notes a fatal rule.
-pub(crate) fn note_fatal(fatal: Fatal, place: Span, reports: &mut List<'_, Report>)
-    ensures { Noted reports.old reports.new (at_place (fatal_number fatal) place ∷ []) }
-{
-    reports.push(Report::at(fatal.number(), place));
-}
-
 /// Notes a rule at a place.
 pub(crate) fn note(rule: Rule, place: Span, reports: &mut List<'_, Report>)
     ensures { Noted reports.old reports.new (at_place (rule_number rule) place ∷ []) }
 {
     reports.push(Report::at(rule.number(), place));
+}
+
+/// Notes a fatal rule at a place, and answers it.
+pub(crate) fn stop<T>(fatal: Fatal, place: Span, reports: &mut List<'_, Report>) -> Result<T, Fatal>
+    ensures { (s : Scene) → Spoke (stop fatal place) s s reports.old reports.new result }
+{
+    note(Rule::from(fatal), place, reports);
+    Err(fatal)
 }
 
 /// Notes a rule at a place, if something holds.

@@ -1,8 +1,8 @@
 //! Properties, accessor properties, and what is either one or a method.
 
 ghost use Rattle.std.specs.Prelude.{◌≡◌, Ok};
-ghost use Rattle.class.specs.Properties.{accessor_name_reports, accessor_named_d, accessor_of, accessor_property_close_d, accessor_property_d, accessor_property_end_d, accessor_property_reports, banged_d, choice_d, definite_d, definite_reports, entry_place, field_name_reports, initializer_reports, is_banned, is_method, is_narrow, joined, marked_d, property_close_d, property_d, property_end_d, property_of, property_or_method_d, property_reports, typed_d};
-ghost use Rattle.class.specs.Reading.{Kept, Reads};
+ghost use Rattle.class.specs.Properties.{accessor_name_reports, accessor_named_d, accessor_of, accessor_property_end_d, accessor_property_reports, definite_d, definite_reports, entry_place, field_name_reports, initializer_reports, is_banned, is_method, is_narrow, joined, property_d, property_end_d, property_of, property_or_method_d, property_reports, typed_d};
+ghost use Rattle.class.specs.Reading.{Reads, ReadsIn};
 ghost use Rattle.dialogue.specs.Spoken.{Spoke};
 ghost use Rattle.kinds.specs.declared.modifier_kind.ModifierKind.TheVariants.{Abstract};
 ghost use Rattle.list.specs.Lists.{Noted};
@@ -13,7 +13,7 @@ ghost use Rattle.reader.specs.Scenes.{Scene};
 use crate::naming::{ReadName, SpecialName};
 use crate::noting::{note, note_at, note_if};
 use crate::reading::Reading;
-use crate::taking::{is, optional, take_inserted, take_question, take_semicolon};
+use crate::taking::is;
 use checks::class_check::ClassCheck;
 use checks::class_checks::run_check;
 use dialogue::Fatal;
@@ -44,6 +44,7 @@ pub struct Typed {
     pub value: Option<Span>,
 }
 
+// One by one, since it serves properties and accessor properties, which are two records.
 fn note_definite(
     bang: Option<Span>,
     value: Option<Span>,
@@ -146,6 +147,7 @@ fn abstract_place(modifiers: Modifiers) -> Option<Span>
     })
 }
 
+// What the definition names goes in one by one, here and where the form ends: nothing else takes the same together.
 fn note_field_name(
     ambient: bool,
     special: Option<SpecialName>,
@@ -258,9 +260,7 @@ fn is_method(generator: bool, t: Token) -> bool
 
 impl<S: ScriptReader> Reading<'_, '_, S> {
     fn read_typed(&mut self, context: &mut Context) -> Result<Typed, Fatal>
-        ensures spoke { Reads S.TokenReader (typed_d self.old.is_ts context.old.bits) self.old self.new result }
-        ensures context { context.new ≡ context.old }
-        ensures kept { Kept self.old self.new }
+        ensures { ReadsIn S.TokenReader (typed_d self.old.is_ts context.old.bits) self.old self.new context.old context.new result }
     {
         let type_annotation = self.take_type(*context)?;
         let value = self.take_value(context)?;
@@ -270,95 +270,35 @@ impl<S: ScriptReader> Reading<'_, '_, S> {
         })
     }
 
-    // Properties and accessor properties go the same way with other pieces; their dialogues are two, and so are these.
-    fn close_accessor_property(
-        &mut self,
-        context: Context,
-        modifiers: Modifiers,
-        marked: MarkedName,
-        typed: Typed,
-    ) -> Result<Form, Fatal>
-        ensures spoke { Reads S.TokenReader (accessor_property_close_d context.bits (entries modifiers) marked.name marked.bang typed) self.old self.new result }
-        ensures kept { Kept self.old self.new }
-    {
-        take_inserted(self.script, self.reports)?;
-        Ok(end_accessor_property(context, modifiers, marked, typed, self.reports))
-    }
-
     fn read_accessor_property(
         &mut self,
         context: &mut Context,
         modifiers: Modifiers,
         marked: MarkedName,
     ) -> Result<Form, Fatal>
-        ensures spoke { Reads S.TokenReader (accessor_property_d self.old.is_ts context.old.bits (entries modifiers) marked.name marked.bang) self.old self.new result }
-        ensures context { context.new ≡ context.old }
-        ensures kept { Kept self.old self.new }
+        ensures { ReadsIn S.TokenReader (accessor_named_d self.old.is_ts context.old.bits (entries modifiers) marked.name marked.question marked.bang) self.old self.new context.old context.new result }
     {
+        note_accessor_name(marked.question, marked.name, self.reports);
         let here = *context;
         let typed = self.read_typed(context)?;
-        self.close_accessor_property(here, modifiers, marked, typed)
+        self.take_inserted()?;
+        Ok(end_accessor_property(here, modifiers, marked, typed, self.reports))
     }
 
-    fn close_property(
-        &mut self,
-        context: Context,
-        modifiers: Modifiers,
-        marked: MarkedName,
-        typed: Typed,
-    ) -> Result<Form, Fatal>
-        ensures spoke { Reads S.TokenReader (property_close_d context.bits (entries modifiers) marked.name marked.question marked.bang typed) self.old self.new result }
-        ensures kept { Kept self.old self.new }
-    {
-        take_semicolon(self.script, self.reports)?;
-        Ok(end_property(context, modifiers, marked, typed, self.reports))
-    }
-
+    // The same steps with other pieces, and no plainer as one: a function for both would take two dialogues' worth of
+    // parameters.
     fn read_property(
         &mut self,
         context: &mut Context,
         modifiers: Modifiers,
         marked: MarkedName,
     ) -> Result<Form, Fatal>
-        ensures spoke { Reads S.TokenReader (property_d self.old.is_ts context.old.bits (entries modifiers) marked.name marked.question marked.bang) self.old self.new result }
-        ensures context { context.new ≡ context.old }
-        ensures kept { Kept self.old self.new }
+        ensures { ReadsIn S.TokenReader (property_d self.old.is_ts context.old.bits (entries modifiers) marked.name marked.question marked.bang) self.old self.new context.old context.new result }
     {
         let here = *context;
         let typed = self.read_typed(context)?;
-        self.close_property(here, modifiers, marked, typed)
-    }
-
-    fn read_accessor_named(
-        &mut self,
-        context: &mut Context,
-        modifiers: Modifiers,
-        marked: MarkedName,
-    ) -> Result<Form, Fatal>
-        ensures spoke { Reads S.TokenReader (accessor_named_d self.old.is_ts context.old.bits (entries modifiers) marked.name marked.question marked.bang) self.old self.new result }
-        ensures context { context.new ≡ context.old }
-        ensures kept { Kept self.old self.new }
-    {
-        note_accessor_name(marked.question, marked.name, self.reports);
-        self.read_accessor_property(context, modifiers, marked)
-    }
-
-    fn read_banged(
-        &mut self,
-        context: &mut Context,
-        modifiers: Modifiers,
-        marked: MarkedName,
-    ) -> Result<Form, Fatal>
-        ensures spoke { Reads S.TokenReader (banged_d self.old.is_ts context.old.bits (entries modifiers) marked.name marked.question marked.bang) self.old self.new result }
-        ensures context { context.new ≡ context.old }
-        ensures kept { Kept self.old self.new }
-    {
-        let both = join(marked.question, marked.bang);
-        note_at(Rule::OptionalDefinite, both, self.reports);
-        if modifiers.contains(ModifierKind::Accessor) {
-            return self.read_accessor_named(context, modifiers, marked);
-        }
-        self.read_property(context, modifiers, marked)
+        self.take_semicolon()?;
+        Ok(end_property(here, modifiers, marked, typed, self.reports))
     }
 
     fn read_definite(
@@ -368,50 +308,20 @@ impl<S: ScriptReader> Reading<'_, '_, S> {
         name: ReadName,
         question: Option<Span>,
     ) -> Result<Form, Fatal>
-        ensures spoke { Reads S.TokenReader (definite_d self.old.is_ts context.old.bits (entries modifiers) name question) self.old self.new result }
-        ensures context { context.new ≡ context.old }
-        ensures kept { Kept self.old self.new }
+        ensures { ReadsIn S.TokenReader (definite_d self.old.is_ts context.old.bits (entries modifiers) name question) self.old self.new context.old context.new result }
     {
-        let bang = optional(self.script, Kind::BANG);
+        let bang = self.optional(Kind::BANG);
+        let both = join(question, bang);
+        note_at(Rule::OptionalDefinite, both, self.reports);
         let marked = MarkedName {
             name,
             question,
             bang,
         };
-        self.read_banged(context, modifiers, marked)
-    }
-
-    fn read_choice(
-        &mut self,
-        context: &mut Context,
-        modifiers: Modifiers,
-        generator: bool,
-        name: ReadName,
-        question: Option<Span>,
-    ) -> Result<Form, Fatal>
-        ensures spoke { Reads S.TokenReader (choice_d self.old.is_ts context.old.bits (entries modifiers) generator name question) self.old self.new result }
-        ensures context { context.new ≡ context.old }
-        ensures kept { Kept self.old self.new }
-    {
-        if is_method(generator, self.script.current()) {
-            return self.read_method(*context, modifiers, question.is_some(), generator, name);
+        if modifiers.contains(ModifierKind::Accessor) {
+            return self.read_accessor_property(context, modifiers, marked);
         }
-        self.read_definite(context, modifiers, name, question)
-    }
-
-    fn read_marked(
-        &mut self,
-        context: &mut Context,
-        modifiers: Modifiers,
-        generator: bool,
-        name: ReadName,
-    ) -> Result<Form, Fatal>
-        ensures spoke { Reads S.TokenReader (marked_d self.old.is_ts context.old.bits (entries modifiers) generator name) self.old self.new result }
-        ensures context { context.new ≡ context.old }
-        ensures kept { Kept self.old self.new }
-    {
-        let question = take_question(self.script, self.is_ts);
-        self.read_choice(context, modifiers, generator, name, question)
+        self.read_property(context, modifiers, marked)
     }
 
     /// Reads a property or a method.
@@ -420,13 +330,15 @@ impl<S: ScriptReader> Reading<'_, '_, S> {
         context: &mut Context,
         modifiers: Modifiers,
     ) -> Result<Form, Fatal>
-        ensures spoke { Reads S.TokenReader (property_or_method_d self.old.is_ts context.old.bits (entries modifiers)) self.old self.new result }
-        ensures context { context.new ≡ context.old }
-        ensures kept { Kept self.old self.new }
+        ensures { ReadsIn S.TokenReader (property_or_method_d self.old.is_ts context.old.bits (entries modifiers)) self.old self.new context.old context.new result }
     {
-        let star = optional(self.script, Kind::STAR);
+        let star = self.optional(Kind::STAR);
         let generator = star.is_some();
         let name = self.read_name(context, modifiers)?;
-        self.read_marked(context, modifiers, generator, name)
+        let question = self.take_question();
+        if is_method(generator, self.script.current()) {
+            return self.read_method(*context, modifiers, question.is_some(), generator, name);
+        }
+        self.read_definite(context, modifiers, name, question)
     }
 }

@@ -3,7 +3,7 @@
 
 #![tactic(auto)]
 
-ghost use Rattle.std.specs.Prelude.{◌≡◌, Some};
+ghost use Rattle.std.specs.Prelude.{Some};
 ghost use Rattle.gate.specs.Lines.{line};
 ghost use Rattle.gate.specs.Verdicts.{Judged};
 ghost use Rattle.refusal.specs.Questions.{number_of};
@@ -11,7 +11,6 @@ ghost use Rattle.session.specs.Boards.{member_board, report_board};
 ghost use Rattle.session.specs.Worlds.{standing_says};
 
 use brackets::Brackets;
-use dialogue::Fatal;
 use kinds::context::Context;
 use laws::read_body;
 use list::list::List;
@@ -44,19 +43,9 @@ impl fmt::Display for Verdict {
             kept,
             missed,
         } = self.standing;
-        let fatal = unless_0(state.fatal().map_or(0, Fatal::number));
-        let refusal = unless_0(self.refusal.map_or(0, Refusal::number));
+        let fatal = OrDash(state.fatal().map(|rule| u16::from(rule.number())));
+        let refusal = OrDash(self.refusal.map(|refusal| u16::from(refusal.number())));
         write!(f, "= {kept} {missed} {members} {fatal} {refusal}")
-    }
-}
-
-// No rule and no refusal has the number 0.
-fn unless_0(number: u8) -> OrDash
-    ensures { result ≡ record { number = number; none = 0 } }
-{
-    OrDash {
-        number: u16::from(number),
-        none: 0,
     }
 }
 

@@ -110,9 +110,9 @@ read_more {t} {s₀} {s} {s'} {ms} {ms'} {l₀} {l} {l'} m r h e f n =
           ∙ sym (append_assoc r.words (m ∷ []) _);
     }
 
-pub end_is : (b : Bool) (x y : ℕ) → Some y ≡ cond b (Some x) None → y ≡ x
-end_is true x y e = cc
-end_is false x y e = let z : ◌≡◌ {A = ℕ} 0 1 = cc in absurd (omega arith)
+pub some_is : {A : Type 0} (b : Bool) (x y : A) → Some y ≡ cond b (Some x) None → y ≡ x
+some_is true x y e = cc
+some_is false x y e = let z : ◌≡◌ {A = ℕ} 0 1 = cc in absurd (omega arith)
 
 -- no keyword at all
 pub no_keyword : (t : ListSettings) (ms : List Modifier) (ts : List Token) {x : Token} → x ≡ head ts → None ≡ modifier_of x.kind.code → keyword_here t ms (head ts) (head (next ts)) ≡ None

@@ -4,11 +4,11 @@ use Rattle.kinds.specs.declared.modifier_kind.ModifierKind.{ModifierKind}
 use Rattle.kinds.specs.declared.modifier_kind.ModifierKind.TheVariants.{Const, Static}
 use Rattle.list.specs.Lists.{Noted}
 use Rattle.list.specs.declared.list.List.{List as Held}
-use Rattle.modifiers.specs.Entries.{added, end_of, keeps, may_follow, same_kind, word_at}
+pub use Rattle.modifiers.specs.Entries.{place_of}
+use Rattle.modifiers.specs.Entries.{added, keeps, may_follow, same_kind, word_at}
 use Rattle.modifiers.specs.Lists.{entries}
 use Rattle.modifiers.specs.declared.modifier.Modifier.{Modifier}
 use Rattle.modifiers.specs.declared.modifiers.Modifiers.{Modifiers}
-use Rattle.parts.specs.declared.Span.{Span}
 use Rattle.reader.specs.Scenes.{Scene, past}
 use Rattle.reader.specs.Tokens.{head}
 use Rattle.reports.specs.Reports.{keyword_report}
@@ -58,10 +58,6 @@ lasts_from ms (k ∷ ks) = lasts_from (added ms k) ks
 
 abbrev pub lasts : List Modifier → List Modifier
 lasts ks = lasts_from [] ks
-
--- the place of a keyword
-abbrev pub place_of : Modifier → Span
-place_of m = record { start = m.start; end = end_of m }
 
 -- the report that an order verdict makes of a keyword, if there is one
 abbrev pub reports_of : Option OrderVerdict → Modifier → List Report

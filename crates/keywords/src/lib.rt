@@ -15,7 +15,6 @@ ghost use Rattle.reader.specs.Sound.{sound};
 use kinds::ModifierKind;
 use list::list::List;
 use modifiers::{Modifier, Modifiers};
-use parts::Span;
 use reader::{Ahead, TokenReader};
 use reports::Report;
 use token::{Kind, Token};
@@ -54,11 +53,11 @@ fn report_order(kept: &Modifiers, kind: ModifierKind, start: u32, reports: &mut 
     let Some(verdict) = order_verdict(kept.kinds(), kind) else {
         return;
     };
-    let Some(end) = (Modifier { start, kind }).end() else {
+    let Some(place) = (Modifier { start, kind }).place() else {
         return;
     };
     let rule = verdict.rule.number();
-    reports.push(Report::of_keyword(rule, kind, Span { start, end }, verdict.other, None));
+    reports.push(Report::of_keyword(rule, kind, place, verdict.other, None));
 }
 
 /// Takes the keywords at the front, reports what their order earns, and answers those that are kept.

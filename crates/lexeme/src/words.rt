@@ -1,5 +1,5 @@
 //! The keywords, by a table: `find` is proved over any table, and this one is handed to it.
-// A `match` on the word would be proved byte by byte, for each of the 87.
+// A table and not a `match`, which is proved byte by byte: on the two words of `name_code` it gives 25 goals.
 
 ghost use Rattle.std.specs.Prelude.{◌≡◌};
 ghost use Rattle.lexeme.specs.Rows.{rows_kind};

@@ -7,6 +7,7 @@ use Rattle.kinds.specs.declared.modifier_kind.ModifierKind.{ModifierKind}
 use Rattle.kinds.specs.declared.modifier_kind.ModifierKind.TheVariants.{Private, Protected, Public}
 use Rattle.modifiers.specs.declared.modifier.Modifier.{Modifier}
 use Rattle.modifiers.specs.declared.modifier.Placed.{Placed}
+use Rattle.parts.specs.declared.Span.{Span}
 
 -- a keyword of a kind, at its start
 abbrev pub word_at : ModifierKind → ℕ → Modifier
@@ -55,9 +56,13 @@ abbrev pub entry_of : ModifierKind → List Modifier → Option Modifier
 entry_of k [] = None
 entry_of k (m ∷ ms) = cond (same_kind m.kind k) (Some m) (entry_of k ms)
 
--- a keyword with both its ends
+-- the place of a keyword
+abbrev pub place_of : Modifier → Span
+place_of m = record { start = m.start; end = end_of m }
+
+-- a keyword with its place
 abbrev pub placed : Modifier → Placed
-placed m = record { kind = m.kind; start = m.start; end = end_of m }
+placed m = record { kind = m.kind; place = place_of m }
 
 abbrev pub placed_if : Option Modifier → Option Placed
 placed_if None = None

@@ -5,6 +5,6 @@ use Rattle.modifiers.specs.Lists.{entries}
 use Rattle.modifiers.specs.declared.iter.Iter.{Iter}
 use Rattle.modifiers.specs.declared.modifier.Placed.{Placed}
 
--- the keywords that are still to come, with both their ends
+-- the keywords that are still to come, each with its place
 abbrev pub left : Iter → List Placed
 left i = map placed (drop i.next (entries i.modifiers))

@@ -5,7 +5,7 @@ ghost use Rattle.std.specs.Prelude.{◌≡◌, map};
 use crate::modifier::Placed;
 use crate::modifiers::Modifiers;
 
-/// The kept keywords from a place of the order on, with both their ends.
+/// The kept keywords from one of the order on, each with its place.
 #[derive(Clone, Copy, Debug)]
 pub struct Iter {
     modifiers: Modifiers,

@@ -1,7 +1,8 @@
-ghost use Rattle.modifiers.specs.Entries.{end_of, fits};
+ghost use Rattle.modifiers.specs.Entries.{end_of, fits, place_of};
 ghost use Rattle.std.specs.Prelude.{◌≡◌, if◌then◌else◌, Some, None};
 
 use kinds::ModifierKind;
+use parts::Span;
 
 /// A keyword and where it begins.
 #[derive(Clone, Copy, Debug, PartialEq, Eq)]
@@ -14,8 +15,7 @@ pub struct Modifier {
 #[derive(Clone, Copy, Debug, PartialEq, Eq)]
 pub struct Placed {
     pub kind: ModifierKind,
-    pub start: u32,
-    pub end: u32,
+    pub place: Span,
 }
 
 impl Modifier {
@@ -24,5 +24,15 @@ impl Modifier {
         ensures { result ≡ (if fits self then Some (end_of self) else None) }
     {
         self.start.checked_add(self.kind.len())
+    }
+
+    /// Where the keyword stands, unless it ends past 32 bits.
+    pub fn place(self) -> Option<Span>
+        ensures { result ≡ (if fits self then Some (place_of self) else None) }
+    {
+        Some(Span {
+            start: self.start,
+            end: self.end()?,
+        })
     }
 }

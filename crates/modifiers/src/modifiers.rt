@@ -7,9 +7,12 @@ ghost use Rattle.modifiers.specs.Entries.{apart, ascending, fits, keeps, listed}
 ghost use Rattle.small_set.specs.Members.{member};
 ghost use Rattle.std.specs.List.{list_all};
 
-use kinds::ModifierKinds;
+use kinds::{ModifierKind, ModifierKinds};
+use small_set::SmallKind;
 
 mod methods;
+
+const KINDS: usize = ModifierKind::COUNT as usize;
 
 // Arrays by value and a length, since nothing is allocated here and a list is copied.
 /// The kept keywords: the set of their kinds, the last start of each by its number, and the
@@ -17,8 +20,8 @@ mod methods;
 #[derive(Clone, Copy, Debug)]
 pub struct Modifiers {
     kinds: ModifierKinds,
-    starts: [u32; 15],
-    order: [u8; 15],
+    starts: [u32; KINDS],
+    order: [u8; KINDS],
     len: u8,
     ghost few: { len ≤ 15 },
     ghost known: { list_all (λ n. nat_lt n 15) (take len order) ≡ true },

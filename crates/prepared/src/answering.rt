@@ -64,6 +64,7 @@ fn are_itemed(told: Result<MethodFacts, Span>) -> bool
 }
 
 // What the records answer for a part at the token `t`, with `left` tokens from it to the end of input.
+// `find` alone says which record stands there, also for an index rest; so the match on it has an arm that never comes.
 pub fn part_answer(records: &[PartRecord], part: Part, t: Token, left: usize) -> Taken<Span>
     ensures result { result.result ≡ (part_in records.now part t left).result }
     ensures count { result.count ≡ (part_in records.now part t left).count }

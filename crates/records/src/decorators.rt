@@ -6,11 +6,13 @@ use parts::Span;
 
 pub mod methods;
 
+const MOST: usize = 16;
+
 /// The first `count` of the places hold the spans.
 // An array and a count: a record is copied as it is and lies in lent memory, so nothing of it is allocated.
 #[derive(Clone, Copy)]
 pub struct Decorators {
-    spans: [Span; 16],
+    spans: [Span; MOST],
     count: u8,
     ghost whole: { length spans ≡ 16 },
     ghost few: { count ≤ 16 },

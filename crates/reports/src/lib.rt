@@ -3,7 +3,7 @@
 #![tactic(auto)]
 
 ghost use Rattle.std.specs.Prelude.{◌≡◌, Some};
-ghost use Rattle.reports.specs.Lines.{line, or_dash};
+ghost use Rattle.reports.specs.Lines.{but, line, or_dash};
 ghost use Rattle.reports.specs.Reports.{at_place, bits_of, keyword_report};
 
 use kinds::{ModifierKind, ModifierKinds};
@@ -65,21 +65,17 @@ impl Report {
     }
 }
 
-/// A number, printed as a dash where it is the one that stands for none.
+/// A number, printed as a dash where there is none.
 #[derive(Clone, Copy, Debug, PartialEq, Eq)]
-pub struct OrDash {
-    pub number: u16,
-    pub none: u16,
-}
+pub struct OrDash(pub Option<u16>);
 
 impl fmt::Display for OrDash {
-    ghost output = { λ x. Some (or_dash x.none x.number) };
+    ghost output = { λ x. Some (or_dash x.0) };
 
     fn fmt<W: fmt::Write>(&self, f: &mut fmt::Formatter<W>) -> fmt::Result {
-        if self.number == self.none {
-            write!(f, "-")
-        } else {
-            write!(f, "{}", self.number)
+        match self.0 {
+            Some(number) => write!(f, "{number}"),
+            None => write!(f, "-"),
         }
     }
 }
@@ -88,22 +84,17 @@ impl fmt::Display for Report {
     ghost output = { λ r. Some (line r) };
 
     fn fmt<W: fmt::Write>(&self, f: &mut fmt::Formatter<W>) -> fmt::Result {
-        let kind = kind_or_dash(self.kind);
-        let other = kind_or_dash(self.other);
-        let allowed = OrDash {
-            number: self.allowed,
-            none: NO_SET,
-        };
+        let kind = unless(u16::from(self.kind), u16::from(NO_KIND));
+        let other = unless(u16::from(self.other), u16::from(NO_KIND));
+        let allowed = unless(self.allowed, NO_SET);
         let (rule, start, end) = (self.rule, self.start, self.end);
         write!(f, "{rule} {start} {end} {kind} {other} {allowed}")
     }
 }
 
-fn kind_or_dash(number: u8) -> OrDash
-    ensures { result ≡ record { number = number; none = 255 } }
+// A number, unless it is the one that stands for none.
+fn unless(number: u16, none: u16) -> OrDash
+    ensures { result.0 ≡ but none number }
 {
-    OrDash {
-        number: u16::from(number),
-        none: u16::from(NO_KIND),
-    }
+    OrDash((number != none).then_some(number))
 }

@@ -8,8 +8,9 @@ ghost use Rattle.std.specs.Prelude.{◌≡◌};
 
 const STANDS: u8 = 0;
 
-// It answers a constant, since what is said stands in its contract.
 /// What the definitions say of each of the texts.
+// It is said in the contract of a call. It answers a number and not `()`, since its must-fail edit changes that number,
+// which shows that the contract is checked.
 pub fn samples_stand() -> u8
     ensures stands { result ≡ 0 }
     ensures samples { SamplesStand }

@@ -5,7 +5,7 @@ use crate::Token;
 pub mod methods;
 
 /// Reads a lent table by index. A table that was refused is read as if it were at its end.
-// An index and not the slice that is left: the table stays lent whole, and nothing is allocated.
+// The table stays lent whole and is read by index, as a client sees it.
 #[derive(Drop)]
 pub struct Table<'a> {
     tokens: &'a [Token],

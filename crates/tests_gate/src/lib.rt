@@ -24,7 +24,7 @@ fn judged(text: &[u8], report_room: &mut [Report], member_room: &mut [MemberReco
     let mut members = List::new(member_room);
     let verdict = judge(text, &mut reports, &mut members);
     let standing = verdict.standing;
-    let last = standing.kept.checked_sub(1).and_then(|i| reports.get(i));
+    let last = reports.as_slice().last().copied();
     let last = last.unwrap_or(blanks::report());
     [
         standing.kept,

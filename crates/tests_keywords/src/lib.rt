@@ -32,12 +32,7 @@ fn report(rule: u8, start: u32, end: u32, kind: u8, other: u8, allowed: u16) -> 
 }
 
 fn holds(list: &mut List<'_, Report>, wanted: &[Report]) -> bool {
-    for (i, w) in wanted.iter().enumerate() {
-        if list.get(i) != Some(*w) {
-            return false;
-        }
-    }
-    list.len() == wanted.len() && list.missed() == 0
+    list.as_slice() == wanted && list.missed() == 0
 }
 
 // The order reports of the keywords at the front of a text.
@@ -55,12 +50,8 @@ fn keeps(text: &[u8], settings: ListSettings, wanted: &[(u8, u32)], then: u32) -
     let mut list = List::new(&mut room);
     let mut script = Trivia::new(Text::new(text).reader);
     let kept = parse_modifiers(&mut script, settings, &mut list);
-    for (i, w) in wanted.iter().enumerate() {
-        if kept.at(i).map(|m| (m.kind.number(), m.start)) != Some(*w) {
-            return false;
-        }
-    }
-    kept.len() == wanted.len() && script.current().start == then
+    let told = kept.iter().map(|m| (m.kind.number(), m.place.start));
+    told.eq(wanted.iter().copied()) && script.current().start == then
 }
 
 // What a check says of the keywords at the front of a text.

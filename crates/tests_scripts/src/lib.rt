@@ -17,17 +17,17 @@ use text::Text;
 use token::{Kind, Token};
 use trivia::Trivia;
 
-fn span(place: (u32, u32)) -> Span {
+type Place = (u32, u32);
+
+fn span(place: Place) -> Span {
     Span {
         start: place.0,
         end: place.1,
     }
 }
 
-// A part's place, with its facts or without.
-fn told(facts: bool, start: u32, end: u32) -> Result<Span, Span> {
-    let place = span((start, end));
-    if facts { Ok(place) } else { Err(place) }
+fn spans(wanted: Result<Place, Place>) -> Result<Span, Span> {
+    wanted.map(span).map_err(span)
 }
 
 // Takes a part, and gives what is told of it and the start of the token after it.
@@ -37,9 +37,9 @@ fn taken<S: ScriptReader>(script: &mut S, part: Part) -> (Result<Span, Span>, u3
 }
 
 // A part at the front of a text, through brackets and trivia.
-fn gives(text: &[u8], part: Part, facts: bool, start: u32, end: u32, then: u32) -> bool {
+fn gives(text: &[u8], part: Part, wanted: Result<Place, Place>, then: u32) -> bool {
     let mut script = Brackets::new(Trivia::new(Text::new(text).reader));
-    taken(&mut script, part) == (told(facts, start, end), then)
+    taken(&mut script, part) == (spans(wanted), then)
 }
 
 fn method(text: &[u8]) -> Option<MethodFacts> {
@@ -48,19 +48,19 @@ fn method(text: &[u8]) -> Option<MethodFacts> {
 }
 
 // A method's rest is refused here, and the tokens before that are taken.
-fn refused(text: &[u8], start: u32, end: u32) -> bool {
+fn refused(text: &[u8], at: Place) -> bool {
     let mut script = Brackets::new(Trivia::new(Text::new(text).reader));
     let told = script.take_method(Context::none());
-    told.err() == Some(span((start, end))) && script.current().start == start
+    told.err() == Some(span(at)) && script.current().start == at.0
 }
 
 // The parameters of a method's rest: how many, the first item, the rest and `this`.
 fn parameters(
     text: &[u8],
     count: u32,
-    item: Option<(u32, u32)>,
-    rest: Option<(u32, u32)>,
-    this: Option<(u32, u32)>,
+    item: Option<Place>,
+    rest: Option<Place>,
+    this: Option<Place>,
 ) -> bool {
     match method(text) {
         Some(m) => m.count == count
@@ -84,11 +84,11 @@ fn starts_index(text: &[u8]) -> bool {
     script.starts_index(Context::none())
 }
 
-fn plain(part: Part, facts: bool, start: u32, count: u32) -> PartRecord {
+fn plain(part: Part, wanted: Result<Place, Place>, start: u32, count: u32) -> PartRecord {
     PartRecord {
         told: Told::Plain {
             part,
-            result: told(facts, 90, 95),
+            result: spans(wanted),
         },
         start,
         count,
@@ -99,13 +99,11 @@ fn plain(part: Part, facts: bool, start: u32, count: u32) -> PartRecord {
 fn prepared<'a>(
     tokens: &'a [Token],
     records: &'a [PartRecord],
-    facts: bool,
-    start: u32,
-    end: u32,
+    wanted: Result<Place, Place>,
     then: u32,
 ) -> bool {
     let mut script = Prepared::new(tokens, records).reader;
-    taken(&mut script, Part::Expression) == (told(facts, start, end), then)
+    taken(&mut script, Part::Expression) == (spans(wanted), then)
 }
 
 // A method's facts, the start of the token after it, and the last end.
@@ -134,25 +132,25 @@ mod tests {
 
     #[test]
     fn expressions(rt: HostRuntime) {
-        assert!(rt; gives(b"a; b", Part::Expression, true, 0, 1, 1));
-        assert!(rt; gives(b";", Part::Expression, false, 0, 1, 0));
-        assert!(rt; gives(b"", Part::Expression, false, 0, 0, 0));
-        assert!(rt; gives(b"a(b, c) d\ne", Part::Expression, true, 0, 9, 10));
-        assert!(rt; gives(b"\na b", Part::Expression, true, 1, 4, 4));
-        assert!(rt; gives(b"(a\n]b, c", Part::Expression, true, 0, 5, 5));
-        assert!(rt; gives(b"(a", Part::Expression, true, 0, 2, 2));
+        assert!(rt; gives(b"a; b", Part::Expression, Ok((0, 1)), 1));
+        assert!(rt; gives(b";", Part::Expression, Err((0, 1)), 0));
+        assert!(rt; gives(b"", Part::Expression, Err((0, 0)), 0));
+        assert!(rt; gives(b"a(b, c) d\ne", Part::Expression, Ok((0, 9)), 10));
+        assert!(rt; gives(b"\na b", Part::Expression, Ok((1, 4)), 4));
+        assert!(rt; gives(b"(a\n]b, c", Part::Expression, Ok((0, 5)), 5));
+        assert!(rt; gives(b"(a", Part::Expression, Ok((0, 2)), 2));
     }
 
     #[test]
     fn other_parts(rt: HostRuntime) {
-        assert!(rt; gives(b": T = 1", Part::TypeAnnotation, true, 0, 3, 4));
-        assert!(rt; gives(b": = 1", Part::TypeAnnotation, false, 2, 3, 2));
-        assert!(rt; gives(b"@a b", Part::Decorator, true, 0, 2, 3));
-        assert!(rt; gives(b"@(", Part::Decorator, false, 1, 2, 1));
-        assert!(rt; gives(b"{ a { } ) x", Part::Block, true, 0, 9, 10));
-        assert!(rt; gives(b"{ a", Part::Block, false, 3, 3, 3));
-        assert!(rt; gives(b"[k: T]: T\n}", Part::IndexRest, true, 0, 9, 10));
-        assert!(rt; gives(b"[k: T]: T x", Part::IndexRest, false, 10, 11, 10));
+        assert!(rt; gives(b": T = 1", Part::TypeAnnotation, Ok((0, 3)), 4));
+        assert!(rt; gives(b": = 1", Part::TypeAnnotation, Err((2, 3)), 2));
+        assert!(rt; gives(b"@a b", Part::Decorator, Ok((0, 2)), 3));
+        assert!(rt; gives(b"@(", Part::Decorator, Err((1, 2)), 1));
+        assert!(rt; gives(b"{ a { } ) x", Part::Block, Ok((0, 9)), 10));
+        assert!(rt; gives(b"{ a", Part::Block, Err((3, 3)), 3));
+        assert!(rt; gives(b"[k: T]: T\n}", Part::IndexRest, Ok((0, 9)), 10));
+        assert!(rt; gives(b"[k: T]: T x", Part::IndexRest, Err((10, 11)), 10));
         assert!(rt;
             starts_index(b"[k: T]") && !starts_index(b"[k]: T") && !starts_index(b"['k': T]")
         );
@@ -197,8 +195,12 @@ mod tests {
         let brace = method(b"() }").ok_or("refused")?;
         let end = method(b"()").ok_or("refused")?;
         assert!(rt; brace.body_start.is_none() && end.body_start.is_none());
-        assert!(rt; refused(b"() x", 3, 4) && refused(b"<T, U>()", 2, 3) && refused(b"<>()", 1, 2));
-        assert!(rt; refused(b"(a", 2, 2) && refused(b"a()", 0, 1) && refused(b"(): {}", 4, 5));
+        assert!(rt;
+            refused(b"() x", (3, 4)) && refused(b"<T, U>()", (2, 3)) && refused(b"<>()", (1, 2))
+        );
+        assert!(rt;
+            refused(b"(a", (2, 2)) && refused(b"a()", (0, 1)) && refused(b"(): {}", (4, 5))
+        );
         Ok(())
     }
 
@@ -209,53 +211,66 @@ mod tests {
             token(Kind::SEMICOLON, 5, 6),
             token(Kind::EOF, 9, 9),
         ];
-        assert!(rt; prepared(&ts, &[plain(Part::Expression, true, 4, 1)], true, 90, 95, 5));
         assert!(rt;
             prepared(
                 &ts,
-                &[plain(Part::Expression, false, 4, 2)],
-                false,
-                90,
-                95,
+                &[plain(Part::Expression, Ok((90, 95)), 4, 1)],
+                Ok((90, 95)),
+                5
+            )
+        );
+        assert!(rt;
+            prepared(
+                &ts,
+                &[plain(Part::Expression, Err((90, 95)), 4, 2)],
+                Err((90, 95)),
                 9,
             )
         );
-        assert!(rt; prepared(&ts, &[], false, 4, 5, 4));
+        assert!(rt; prepared(&ts, &[], Err((4, 5)), 4));
         assert!(rt;
             prepared(
                 &ts,
                 &[
-                    plain(Part::Block, true, 4, 1),
-                    plain(Part::Expression, true, 5, 1),
+                    plain(Part::Block, Ok((90, 95)), 4, 1),
+                    plain(Part::Expression, Ok((90, 95)), 5, 1),
                 ],
-                false,
-                4,
-                5,
-                4,
-            )
-        );
-        assert!(rt; prepared(&ts, &[plain(Part::Expression, true, 4, 3)], false, 4, 5, 4));
-        assert!(rt; prepared(&ts, &[plain(Part::Expression, true, 4, 0)], false, 4, 5, 4));
-        assert!(rt;
-            prepared(
-                &ts,
-                &[plain(Part::Expression, false, 4, 0)],
-                false,
-                90,
-                95,
+                Err((4, 5)),
                 4,
             )
         );
         assert!(rt;
             prepared(
                 &ts,
-                &[
-                    plain(Part::Expression, true, 4, 9),
-                    plain(Part::Expression, true, 4, 1),
-                ],
-                false,
+                &[plain(Part::Expression, Ok((90, 95)), 4, 3)],
+                Err((4, 5)),
+                4
+            )
+        );
+        assert!(rt;
+            prepared(
+                &ts,
+                &[plain(Part::Expression, Ok((90, 95)), 4, 0)],
+                Err((4, 5)),
+                4
+            )
+        );
+        assert!(rt;
+            prepared(
+                &ts,
+                &[plain(Part::Expression, Err((90, 95)), 4, 0)],
+                Err((90, 95)),
                 4,
-                5,
+            )
+        );
+        assert!(rt;
+            prepared(
+                &ts,
+                &[
+                    plain(Part::Expression, Ok((90, 95)), 4, 9),
+                    plain(Part::Expression, Ok((90, 95)), 4, 1),
+                ],
+                Err((4, 5)),
                 4,
             )
         );

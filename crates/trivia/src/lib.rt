@@ -45,7 +45,7 @@ impl<R: TokenReader> Trivia<R> {
         ensures last { result.taken ≡ 0 }
         ensures sound { sound (R.TokenReader.tokens below) ≡ true → (trivia_tokens R.TokenReader.tokens result ≡ without_skips false (R.TokenReader.tokens below)) × (sound (trivia_tokens R.TokenReader.tokens result) ≡ true) }
     {
-        // Not `from_fn`: after it a proof knows nothing of what its closure took from `below`.
+        // Not `array::from_fn`: what its closure leaves of `below` is not told (`returns-clause-tokens` stays open).
         let first = next_kept(&mut below);
         let second = next_kept(&mut below);
         let third = next_kept(&mut below);

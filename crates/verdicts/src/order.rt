@@ -65,7 +65,7 @@ fn gives(rule: Rule, kept: ModifierKinds, later: ModifierKind, earlier: Modifier
     kept.contains(earlier) && verdict(later, earlier) == Some(rule)
 }
 
-// It answers a constant, since the law stands in its contract.
+// A law stands on a call, and this number is all that an edit can make wrong there.
 /// What the definition of an order verdict comes to, said without it.
 pub fn order_stands() -> u8
     ensures stands { result ≡ 0 }

@@ -9,7 +9,8 @@ use small_set::SmallKind;
 
 const KINDS: usize = 15;
 
-// One row for each later kind, one bit for each kind that is forbidden earlier.
+// One row for each later kind, one bit for each kind that is forbidden earlier; plain bits, so that one computation
+// ties all of them to the lists of kinds.
 #[rattlefmt::skip]
 const ROWS: [u16; KINDS] = [
     0b0000_0000_1000_0001, // declare
@@ -29,7 +30,7 @@ const ROWS: [u16; KINDS] = [
     0b0100_0001_0100_0001, // export
 ];
 
-// One row for each later kind, one verdict for each earlier kind.
+// One row for each later kind, one verdict for each earlier kind; plain numbers for the same reason.
 #[rattlefmt::skip]
 const VERDICTS: [u8; 225] = [
     2, 0, 0, 0, 0, 0, 0, 4, 0, 0, 0, 0, 0, 0, 0, // declare

@@ -19,6 +19,7 @@ impl<'a, T: Copy> List<'a, T> {
         }
     }
 
+    // Each question takes the list for writing and promises no change; `as_slice` alone takes it for reading.
     /// How many elements it holds.
     pub fn len(&mut self) -> usize
         ensures value { result ≡ length (listed self.old) }
@@ -76,7 +77,7 @@ impl<'a, T: Copy> List<'a, T> {
     }
 }
 
-// It answers a constant, since the law stands in its contract.
+// A law stands on a call, and this number is all that an edit can make wrong there.
 /// Noting two rows of elements in turn is noting them joined.
 pub fn noting_joins<T: Copy>() -> u8
     ensures value { result ≡ 0 }

@@ -5,14 +5,10 @@ ghost use Rattle.modifiers.specs.Lists.{entries};
 ghost use Rattle.small_set.specs.Members.{member};
 ghost use Rattle.std.specs.List.{slice_get};
 
-use super::Modifiers;
+use super::{KINDS, Modifiers};
 use crate::modifier::{Modifier, Placed};
 use kinds::{ModifierKind, ModifierKinds};
 use small_set::SmallKind;
-
-const KINDS: usize = 15;
-
-const NONE: u8 = 0;
 
 const ACCESSIBILITIES: [ModifierKind; 3] = [
     ModifierKind::Public,
@@ -29,7 +25,7 @@ impl Modifiers {
             kinds: ModifierKinds::none(),
             starts: [0; KINDS],
             order: [0; KINDS],
-            len: NONE,
+            len: 0,
         }
     }
 
@@ -84,22 +80,18 @@ impl Modifiers {
     pub fn at(self, i: usize) -> Option<Modifier>
         ensures { result ≡ slice_get (entries self) i }
     {
-        if i < self.len as usize {
-            Some(entry(self.starts, self.order[i]))
-        } else {
-            None
-        }
+        let n = self.order[..self.len as usize].get(i)?;
+        Some(entry(self.starts, *n))
     }
 
-    /// The keyword at a place of the order, with both its ends.
+    /// The keyword at a place of the order, with its own place in the script.
     pub fn placed_at(self, i: usize) -> Option<Placed>
         ensures { result ≡ placed_if (slice_get (entries self) i) }
     {
         let m = self.at(i)?;
         Some(Placed {
             kind: m.kind,
-            start: m.start,
-            end: m.start + m.kind.len(),
+            place: m.place()?,
         })
     }
 
@@ -120,11 +112,10 @@ impl Modifiers {
     fn is_below(self, start: u32) -> bool
         ensures { result ≡ above start (entries self) }
     {
-        if self.len == NONE {
-            return true;
+        match self.order[..self.len as usize].last() {
+            Some(n) => self.starts[*n as usize] < start,
+            None => true,
         }
-        let last = self.order[self.len as usize - 1];
-        self.starts[last as usize] < start
     }
 
     fn with(self, kind: ModifierKind, start: u32) -> Modifiers

@@ -2,10 +2,8 @@ ghost use Rattle.std.specs.Prelude.{◌≡◌, true, false, [], ◌∷◌, ◌++
 ghost use Rattle.std.specs.List.{slice_get};
 ghost use Rattle.records.specs.Decorators.{spans_of};
 
-use super::Decorators;
+use super::{Decorators, MOST};
 use parts::Span;
-
-const MOST: u8 = 16;
 
 const NOWHERE: Span = Span { start: 0, end: 0 };
 
@@ -14,7 +12,7 @@ impl Decorators {
         ensures { spans_of result ≡ [] }
     {
         Decorators {
-            spans: [NOWHERE; 16],
+            spans: [NOWHERE; MOST],
             count: 0,
         }
     }
@@ -26,8 +24,9 @@ impl Decorators {
         ensures pushed { result ≡ true → spans_of self.new ≡ spans_of self.old ++ (span ∷ []) }
         ensures full { result ≡ false → self.new ≡ self.old }
     {
-        if self.count < MOST {
-            self.spans[self.count as usize] = span;
+        let next = self.count as usize;
+        if next < MOST {
+            self.spans[next] = span;
             self.count += 1;
             true
         } else {

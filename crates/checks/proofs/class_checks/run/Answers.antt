@@ -22,12 +22,14 @@ fits Constructor = lit< tt
 fits Method = lit< tt
 fits Property = lit< tt
 
+pub set-requires : goal.set-requires
+set-requires g c = rw c.bits.ensures (fits c.args.check)
+
 pub returns : goal.returns
 unfolding check_reports
 returns g c =
     let k = c.args.check in
     let ms = entries c.args.modifiers in
-    let room : c.bits.result < 2 ^ 15 = rw c.bits.ensures (fits k) in
-    let bits = c.set.ensures room ∙ c.bits.ensures in
+    let bits = c.set.ensures ∙ c.bits.ensures in
     let same : disallowed_reports c.set.result.bits c.is_strict.result (g.W.Wording.says c.args.wording) ms ≡ disallowed_reports (packed (allowed_in k)) (strict_in k) (says_in k) ms = cc in
     subst (λ (rs : List Report). Noted c.args.reports.now c.verify_modifiers.new.reports rs) same c.verify_modifiers.ensures.noted

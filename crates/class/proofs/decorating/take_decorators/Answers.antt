@@ -2,6 +2,7 @@ use Rattle.std.proofs.Common.{◌≡◌, ℕ, ◌+◌, ◌-◌, suc, true, ltb, 
 use Rattle.std.proofs.lemmas.Bool.Decides.{nat_tests}
 use Rattle.std.proofs.lemmas.Result.{err_from_is_err_and}
 use Rattle.class.proofs.Decorators.{decorators_begun, decorators_full, decorators_more, decorators_none, decorators_refused, length_more}
+use Rattle.reader.specs.Scenes.{scene}
 use Rattle.records.specs.Decorators.{spans_of}
 use Rattle.reports.specs.Reports.{at_place}
 use Rattle.token.specs.Spans.{span_of}
@@ -39,9 +40,10 @@ loop-context-smaller g c =
 
 pub returns-then-len-eq-MOST : goal.returns-then-len-eq-MOST
 returns-then-len-eq-MOST g c =
+    let x = c.stop.ensures (scene g.S.TokenReader c.loop-context.script) in
     c.loop-context.invariant.onward 0 _ _ _ (omega arith)
-    (decorators_full _ _ c.current.ensures.value (sym c.loop-context-test.ensures)
-    (ap (at_place 52) (c.from-place.ensures ∙ ap span_of (c.current-then-len-eq-MOST.ensures.value ∙ sym c.current.ensures.value))) c.note_fatal.ensures)
+    (rw x.value (decorators_full _ _ c.current.ensures.value (sym c.loop-context-test.ensures)
+    (ap (at_place 52) (c.from-place.ensures ∙ ap span_of (c.current-then-len-eq-MOST.ensures.value ∙ sym c.current.ensures.value))) x.reports))
 
 pub returns-in_err-span : goal.returns-in_err-span
 returns-in_err-span g c =

@@ -1,7 +1,8 @@
-use Rattle.std.proofs.Common.{Bool, ap, ap₂}
+use Rattle.std.proofs.Common.{ap, ◌∙◌}
 use Rattle.class.proofs.Steps.{done_is}
 use Rattle.class.specs.Forms.{constructor_end_d}
-use Rattle.class.specs.Methods.{constructor_reports}
+use Rattle.class.specs.Methods.{constructor_reports, judge}
+use Rattle.class.specs.declared.judging.Judged.{Judged}
 use Rattle.dialogue.proofs.Steps.{note_spoke}
 use Rattle.records.specs.declared.record.Form.TheVariants.{Constructor}
 use Rattle.records.specs.declared.record.Method.{Method as Facts}
@@ -10,5 +11,5 @@ use Rattle.class.proofs.methods.end_constructor.Goals as goal
 pub returns : goal.returns
 unfolding constructor_end_d
 returns c = λ s.
-    note_spoke _ _ (ap₂ (λ (b : Bool) (m : Facts). constructor_reports b c.args.name.special m) c.contains-ambient.ensures c.method_of-m.ensures) c.note_constructor.ensures
+    note_spoke _ _ (ap (λ (j : Judged). constructor_reports j.ambient j.special j.method) (c.judge.ensures ∙ ap (λ (m : Facts). judge m c.args.name c.args.context.bits) c.method_of-m.ensures)) c.note_constructor.ensures
     (done_is (ap Constructor c.method_of-m.ensures))

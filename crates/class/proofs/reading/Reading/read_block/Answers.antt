@@ -1,4 +1,4 @@
-use Rattle.std.proofs.Common.{refl}
+use Rattle.std.proofs.Common.{refl, rules}
 use Rattle.class.proofs.Steps.{done_is, passed_on}
 use Rattle.class.specs.Forms.{block_d}
 use Rattle.class.specs.Taking.{part_d}
@@ -7,14 +7,24 @@ use Rattle.dialogue.proofs.Steps.{check_spoke, eat_yes, note_spoke}
 use Rattle.parts.specs.declared.Part.TheVariants.{Block}
 use Rattle.class.proofs.reading.Reading.read_block.Goals as goal
 
-pub returns-clause-spoke : goal.returns-clause-spoke
+pub returns : goal.returns
 unfolding block_d
-returns-clause-spoke g c =
-    note_spoke _ _ refl c.note_decorators.ensures (check_spoke _ _ _ c.run_check.ensures
-    (eat_yes _ _ _ refl refl c.take.ensures (then_spoke _ (part_d Block _) c.in_ok-span.ensures.spoke (done_is refl))))
+returns g c =
+    record {
+      spoke =
+          note_spoke _ _ refl c.note_decorators.ensures (check_spoke _ _ _ c.run_check.ensures
+          (eat_yes _ _ _ refl refl c.take.ensures (then_spoke _ (part_d Block _) c.in_ok-span.ensures.spoke (done_is refl))));
+      kept = search rules;
+      context = search rules;
+    }
 
-pub returns-in_err-span-clause-spoke : goal.returns-in_err-span-clause-spoke
+pub returns-in_err-span : goal.returns-in_err-span
 unfolding block_d
-returns-in_err-span-clause-spoke g c =
-    note_spoke _ _ refl c.note_decorators.ensures (check_spoke _ _ _ c.run_check.ensures
-    (eat_yes _ _ _ refl refl c.take.ensures (passed_on _ (part_d Block _) c.from_residual.ensures.1 c.in_err-span.ensures.spoke)))
+returns-in_err-span g c =
+    record {
+      spoke =
+          note_spoke _ _ refl c.note_decorators.ensures (check_spoke _ _ _ c.run_check.ensures
+          (eat_yes _ _ _ refl refl c.take.ensures (passed_on _ (part_d Block _) c.from_residual.ensures.1 c.in_err-span.ensures.spoke)));
+      kept = search rules;
+      context = search rules;
+    }

@@ -1,3 +1,4 @@
+use Rattle.std.proofs.Common.{rules}
 use Rattle.dialogue.proofs.Sequels.{then_spoke}
 use Rattle.parts.specs.declared.Part.TheVariants.{Expression}
 use Rattle.class.proofs.Steps.{passed_on}
@@ -5,10 +6,10 @@ use Rattle.class.specs.Naming.{closed_d, computed_d}
 use Rattle.class.specs.Taking.{part_d}
 use Rattle.class.proofs.reading.Reading.read_computed.Goals as goal
 
-pub returns-clause-spoke : goal.returns-clause-spoke
+pub returns : goal.returns
 unfolding computed_d
-returns-clause-spoke g c = then_spoke closed_d (part_d Expression _) c.in_ok-span.ensures.spoke c.close_name.ensures
+returns g c = record { spoke = then_spoke closed_d (part_d Expression _) c.in_ok-span.ensures.spoke c.close_name.ensures.spoke; kept = search rules; context = search rules }
 
-pub returns-in_err-span-clause-spoke : goal.returns-in_err-span-clause-spoke
+pub returns-in_err-span : goal.returns-in_err-span
 unfolding computed_d
-returns-in_err-span-clause-spoke g c = passed_on closed_d (part_d Expression _) c.from_residual.ensures.1 c.in_err-span.ensures.spoke
+returns-in_err-span g c = record { spoke = passed_on closed_d (part_d Expression _) c.from_residual.ensures.1 c.in_err-span.ensures.spoke; kept = search rules; context = search rules }

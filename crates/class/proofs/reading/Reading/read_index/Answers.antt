@@ -1,4 +1,4 @@
-use Rattle.std.proofs.Common.{Bool, refl, ap₂}
+use Rattle.std.proofs.Common.{Bool, refl, ap₂, rules}
 use Rattle.class.proofs.Steps.{done_is, passed_on}
 use Rattle.class.specs.Forms.{index_d}
 use Rattle.class.specs.Taking.{part_d}
@@ -8,12 +8,16 @@ use Rattle.parts.specs.declared.Part.TheVariants.{IndexRest}
 use Rattle.records.specs.declared.record.Form.TheVariants.{IndexSignature}
 use Rattle.class.proofs.reading.Reading.read_index.Goals as goal
 
-pub returns-clause-spoke : goal.returns-clause-spoke
+pub returns : goal.returns
 unfolding index_d
-returns-clause-spoke g c =
-    note_spoke _ _ refl c.note_decorators.ensures (check_spoke _ _ _ c.run_check.ensures
-    (then_spoke _ (part_d IndexRest _) c.in_ok-rest.ensures (done_is (ap₂ (λ (a b : Bool). IndexSignature a b c.in_ok-rest.rest) c.contains.ensures c.contains-2.ensures))))
+returns g c =
+    record {
+      spoke =
+          note_spoke _ _ refl c.note_decorators.ensures (check_spoke _ _ _ c.run_check.ensures
+          (then_spoke _ (part_d IndexRest _) c.in_ok-rest.ensures (done_is (ap₂ (λ (a b : Bool). IndexSignature a b c.in_ok-rest.rest) c.contains.ensures c.contains-2.ensures))));
+      kept = search rules;
+    }
 
-pub returns-in_err-rest-clause-spoke : goal.returns-in_err-rest-clause-spoke
+pub returns-in_err-rest : goal.returns-in_err-rest
 unfolding index_d
-returns-in_err-rest-clause-spoke g c = note_spoke _ _ refl c.note_decorators.ensures (check_spoke _ _ _ c.run_check.ensures (passed_on _ (part_d IndexRest _) c.from_residual.ensures.1 c.in_err-rest.ensures))
+returns-in_err-rest g c = record { spoke = note_spoke _ _ refl c.note_decorators.ensures (check_spoke _ _ _ c.run_check.ensures (passed_on _ (part_d IndexRest _) c.from_residual.ensures.1 c.in_err-rest.ensures)); kept = search rules }

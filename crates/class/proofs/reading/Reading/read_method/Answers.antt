@@ -1,3 +1,4 @@
+use Rattle.std.proofs.Common.{rules}
 use Rattle.class.proofs.Steps.{passed_on}
 use Rattle.class.specs.Forms.{method_form_d}
 use Rattle.class.specs.Taking.{method_d}
@@ -5,10 +6,10 @@ use Rattle.dialogue.proofs.Sequels.{then_spoke}
 use Rattle.dialogue.proofs.Steps.{check_spoke}
 use Rattle.class.proofs.reading.Reading.read_method.Goals as goal
 
-pub returns-clause-spoke : goal.returns-clause-spoke
+pub returns : goal.returns
 unfolding method_form_d
-returns-clause-spoke g c = check_spoke _ _ _ c.run_check.ensures (then_spoke _ (method_d _) c.in_ok-facts.ensures (c.end_method.ensures _))
+returns g c = record { spoke = check_spoke _ _ _ c.run_check.ensures (then_spoke _ (method_d _) c.in_ok-facts.ensures.spoke (c.end_method.ensures _)); kept = search rules }
 
-pub returns-in_err-facts-clause-spoke : goal.returns-in_err-facts-clause-spoke
+pub returns-in_err-facts : goal.returns-in_err-facts
 unfolding method_form_d
-returns-in_err-facts-clause-spoke g c = check_spoke _ _ _ c.run_check.ensures (passed_on _ (method_d _) c.from_residual.ensures.1 c.in_err-facts.ensures)
+returns-in_err-facts g c = record { spoke = check_spoke _ _ _ c.run_check.ensures (passed_on _ (method_d _) c.from_residual.ensures.1 c.in_err-facts.ensures.spoke); kept = search rules }

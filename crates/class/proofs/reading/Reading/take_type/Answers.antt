@@ -1,4 +1,4 @@
-use Rattle.std.proofs.Common.{sym, refl}
+use Rattle.std.proofs.Common.{sym, refl, rules}
 use Rattle.class.specs.Taking.{part_d, type_d}
 use Rattle.class.proofs.Steps.{done_is, passed_on}
 use Rattle.dialogue.proofs.Sequels.{then_spoke}
@@ -6,14 +6,14 @@ use Rattle.dialogue.proofs.Steps.{look_spoke, test_false, test_true}
 use Rattle.parts.specs.declared.Part.TheVariants.{TypeAnnotation}
 use Rattle.class.proofs.reading.Reading.take_type.Goals as goal
 
-pub returns-then-not-is_annotated-clause-spoke : goal.returns-then-not-is_annotated-clause-spoke
+pub returns-then-not-is_annotated : goal.returns-then-not-is_annotated
 unfolding type_d
-returns-then-not-is_annotated-clause-spoke g c = look_spoke _ c.current.ensures.value (test_false _ _ _ (sym c.if-not-is_annotated.ensures) (done_is refl))
+returns-then-not-is_annotated g c = record { spoke = look_spoke _ c.current.ensures.value (test_false _ _ _ (sym c.if-not-is_annotated.ensures) (done_is refl)); kept = search rules }
 
-pub returns-clause-spoke : goal.returns-clause-spoke
+pub returns : goal.returns
 unfolding type_d
-returns-clause-spoke g c = look_spoke _ c.current.ensures.value (test_true _ _ _ (sym c.if-not-is_annotated.ensures) (then_spoke _ (part_d TypeAnnotation c.args.context.bits) c.in_ok-span.ensures (done_is refl)))
+returns g c = record { spoke = look_spoke _ c.current.ensures.value (test_true _ _ _ (sym c.if-not-is_annotated.ensures) (then_spoke _ (part_d TypeAnnotation c.args.context.bits) c.in_ok-span.ensures (done_is refl))); kept = search rules }
 
-pub returns-in_err-span-clause-spoke : goal.returns-in_err-span-clause-spoke
+pub returns-in_err-span : goal.returns-in_err-span
 unfolding type_d
-returns-in_err-span-clause-spoke g c = look_spoke _ c.current.ensures.value (test_true _ _ _ (sym c.if-not-is_annotated.ensures) (passed_on _ (part_d TypeAnnotation c.args.context.bits) c.from_residual.ensures.1 c.in_err-span.ensures))
+returns-in_err-span g c = record { spoke = look_spoke _ c.current.ensures.value (test_true _ _ _ (sym c.if-not-is_annotated.ensures) (passed_on _ (part_d TypeAnnotation c.args.context.bits) c.from_residual.ensures.1 c.in_err-span.ensures)); kept = search rules }
