@@ -32,7 +32,7 @@ pub struct Judged {
     pub special: Option<SpecialName>,
 }
 
-// What the definition names goes in one by one, here and where a form ends: nothing else takes the same together.
+// What the definition of a record names goes in one by one.
 /// A method of a name, with the keywords that were kept before it.
 pub(crate) fn method_of(
     name: ReadName,

@@ -140,14 +140,10 @@ fn abstract_place(modifiers: Modifiers) -> Option<Span>
     ensures { result ≡ entry_place (entry_of Abstract (entries modifiers)) }
 {
     let word = modifiers.get(ModifierKind::Abstract)?;
-    let end = word.end()?;
-    Some(Span {
-        start: word.start,
-        end,
-    })
+    word.place()
 }
 
-// What the definition names goes in one by one, here and where the form ends: nothing else takes the same together.
+// What the definition of these reports names goes in one by one.
 fn note_field_name(
     ambient: bool,
     special: Option<SpecialName>,
