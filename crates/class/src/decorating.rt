@@ -23,6 +23,7 @@ use rules::Rule;
 use script::ScriptReader;
 use token::Kind;
 
+// The rule's number, and not the room of `Decorators`, which is as large: the rule stays where the room grows.
 /// How many decorators a member can have.
 const MOST: usize = 16;
 

@@ -1,7 +1,7 @@
 //! Getters, setters, constructors and other methods.
 
 ghost use Rattle.std.specs.Prelude.{◌≡◌, Ok};
-ghost use Rattle.class.specs.Forms.{accessor_d, accessor_end_d, accessor_form, constructor_d, constructor_end_d, element_checks_d, method_end_d, method_form_d};
+ghost use Rattle.class.specs.Forms.{accessor_d, accessor_form, constructor_d, element_checks_d, method_form_d};
 ghost use Rattle.class.specs.Reading.{Reads, ReadsIn};
 ghost use Rattle.dialogue.specs.Spoken.{Spoke};
 ghost use Rattle.modifiers.specs.Lists.{entries};
@@ -18,7 +18,6 @@ use dialogue::Fatal;
 use kinds::context::Context;
 use list::list::List;
 use modifiers::Modifiers;
-use parts::MethodFacts;
 use reader::TokenReader;
 use records::{Form, Method};
 use reports::Report;
@@ -45,54 +44,6 @@ fn accessor_form(kind: AccessorKind, m: Method) -> Form
     }
 }
 
-// As in the last step of its dialogue, and so for the other two: what has come of the pieces goes in one by one.
-fn end_accessor(
-    is_ts: bool,
-    context: Context,
-    modifiers: Modifiers,
-    kind: AccessorKind,
-    name: ReadName,
-    facts: MethodFacts,
-    reports: &mut List<'_, Report>,
-) -> Form
-    ensures { (s : Scene) → Spoke (accessor_end_d is_ts context.bits (entries modifiers) kind name facts) s s reports.old reports.new (Ok result) }
-{
-    let m = method_of(name, modifiers, false, false, facts);
-    note_accessor(is_ts, kind, judge(m, name, context), reports);
-    run_check(ClassCheck::Accessor, modifiers, reports);
-    accessor_form(kind, m)
-}
-
-fn end_constructor(
-    context: Context,
-    modifiers: Modifiers,
-    name: ReadName,
-    facts: MethodFacts,
-    reports: &mut List<'_, Report>,
-) -> Form
-    ensures { (s : Scene) → Spoke (constructor_end_d context.bits (entries modifiers) name facts) s s reports.old reports.new (Ok result) }
-{
-    let m = method_of(name, modifiers, false, false, facts);
-    note_constructor(judge(m, name, context), reports);
-    Form::Constructor(m)
-}
-
-fn end_method(
-    context: Context,
-    modifiers: Modifiers,
-    optional: bool,
-    generator: bool,
-    name: ReadName,
-    facts: MethodFacts,
-    reports: &mut List<'_, Report>,
-) -> Form
-    ensures { (s : Scene) → Spoke (method_end_d context.bits (entries modifiers) optional generator name facts) s s reports.old reports.new (Ok result) }
-{
-    let m = method_of(name, modifiers, optional, generator, facts);
-    note_plain(judge(m, name, context), reports);
-    Form::Method(m)
-}
-
 impl<S: ScriptReader> Reading<'_, '_, S> {
     /// Reads a getter or a setter after its keyword.
     pub(crate) fn read_accessor(
@@ -107,7 +58,10 @@ impl<S: ScriptReader> Reading<'_, '_, S> {
         let here = *context;
         let name = self.read_name(context, modifiers)?;
         let facts = self.take_method(here)?;
-        Ok(end_accessor(self.is_ts, here, modifiers, kind, name, facts, self.reports))
+        let m = method_of(name, modifiers, false, false, facts);
+        note_accessor(self.is_ts, kind, judge(m, name, here), self.reports);
+        run_check(ClassCheck::Accessor, modifiers, self.reports);
+        Ok(accessor_form(kind, m))
     }
 
     /// Reads a constructor after its name.
@@ -128,7 +82,9 @@ impl<S: ScriptReader> Reading<'_, '_, S> {
         run_check(ClassCheck::ConstInOut, before.modifiers, self.reports);
         run_check(ClassCheck::Constructor, before.modifiers, self.reports);
         let facts = self.take_method(context)?;
-        Ok(end_constructor(context, before.modifiers, name, facts, self.reports))
+        let m = method_of(name, before.modifiers, false, false, facts);
+        note_constructor(judge(m, name, context), self.reports);
+        Ok(Form::Constructor(m))
     }
 
     /// Reads any other method after its name.
@@ -144,14 +100,8 @@ impl<S: ScriptReader> Reading<'_, '_, S> {
     {
         run_check(ClassCheck::Method, modifiers, self.reports);
         let facts = self.take_method(context)?;
-        Ok(end_method(
-            context,
-            modifiers,
-            optional,
-            generator,
-            name,
-            facts,
-            self.reports,
-        ))
+        let m = method_of(name, modifiers, optional, generator, facts);
+        note_plain(judge(m, name, context), self.reports);
+        Ok(Form::Method(m))
     }
 }

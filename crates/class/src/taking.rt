@@ -30,6 +30,7 @@ pub(crate) fn is(t: Token, kind: Kind) -> bool
     t.kind == kind
 }
 
+// The bracket reader says the same for itself: it stands in for a parser, which the members know nothing of.
 /// Whether a semicolon can be inserted before a token.
 fn can_insert(t: Token) -> bool
     ensures { result ≡ can_insert t }

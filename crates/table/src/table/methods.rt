@@ -57,11 +57,10 @@ impl TokenReader for Table<'_> {
 
     fn peek(&self, d: Ahead) -> Token {
         let one = self.step_from(self.at);
-        let two = self.step_from(one);
         let place = match d {
             Ahead::One => one,
-            Ahead::Two => two,
-            Ahead::Three => self.step_from(two),
+            Ahead::Two => self.step_from(one),
+            Ahead::Three => self.step_from(self.step_from(one)),
         };
         self.token_at(place)
     }
@@ -71,6 +70,7 @@ impl TokenReader for Table<'_> {
     }
 
     fn advance(&mut self) {
+        // As over text and brackets: three lines, each over a field of its own.
         let t = self.current();
         self.at = self.step_from(self.at);
         if t.kind != Kind::EOF {
