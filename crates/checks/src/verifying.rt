@@ -45,7 +45,11 @@ pub fn verify_modifiers<W: Wording>(
     ensures noted { Noted reports.old reports.new (disallowed_reports check.now.allowed.bits check.now.strict (W.Wording.says check.now.wording) (entries modifiers)) }
     ensures once { (kept : Listed Modifier) → entries modifiers ≡ lasts kept → CheckedOnce check.now.allowed.bits check.now.strict (W.Wording.says check.now.wording) kept (disallowed_reports check.now.allowed.bits check.now.strict (W.Wording.says check.now.wording) (entries modifiers)) }
 {
-    for m in modifiers.iter() {
+    // By the index, since the must-fail edit that turns the order needs it: over `iter()` that fell for its form alone.
+    for i in 0..modifiers.len() {
+        let Some(m) = modifiers.placed_at(i) else {
+            return;
+        };
         verify_one(m, check, reports);
     }
 }

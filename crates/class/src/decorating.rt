@@ -43,13 +43,16 @@ pub(crate) fn take_decorators<S: ScriptReader>(
     ensures { Spoke (decorators_d context.bits 16 []) (scene S.TokenReader script.old) (scene S.TokenReader script.new) reports.old reports.new (spans_in result) }
 {
     let mut decorators = Decorators::none();
-    while is(script.current(), Kind::AT) {
-        if decorators.len() == MOST {
-            let place = Span::from(script.current());
-            return stop(Fatal::TooManyDecorators, place, reports);
+    for _ in 0..MOST {
+        if !is(script.current(), Kind::AT) {
+            return Ok(decorators);
         }
         let span = take_part(script, Part::Decorator, context, reports)?;
         decorators.push(span);
+    }
+    let next = script.current();
+    if is(next, Kind::AT) {
+        return stop(Fatal::TooManyDecorators, Span::from(next), reports);
     }
     Ok(decorators)
 }

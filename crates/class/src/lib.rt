@@ -8,11 +8,11 @@ mod blocks;
 mod decorating;
 mod forms;
 mod judging;
-mod members;
+pub mod members;
 mod methods;
-mod naming;
+pub mod naming;
 mod noting;
-mod properties;
+pub mod properties;
 mod reading;
 mod taking;
 

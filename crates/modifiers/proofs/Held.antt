@@ -1,8 +1,8 @@
 -- How a list is held: the numbers of the kinds in order, and the starts of all kinds.
-use Rattle.std.proofs.Common.{◌≡◌, ℕ, zero, suc, ◌+◌, ◌<◌, ◌≤◌, Bool, true, false, cond, not, ◌||◌, eqb, ltb, List, [], ◌∷◌, ◌++◌, length, get_or, take, set, Some, None, filter, sym, refl, ap, ◌∙◌, ap₂, ⊎_elim, append-nil, arith}
+use Rattle.std.proofs.Common.{◌≡◌, ℕ, zero, suc, ◌+◌, ◌<◌, ◌≤◌, Bool, true, false, cond, not, ◌||◌, eqb, ltb, List, [], ◌∷◌, ◌++◌, length, get_or, take, set, Some, None, filter, sym, refl, ap, ◌∙◌, ap₂, ⊎_elim, append-nil, arith, length-take}
 use Rattle.std.specs.List.{list_all, slice_get}
 use Rattle.std.proofs.lemmas.List.Elements.{filter_more}
-use Rattle.std.proofs.lemmas.List.{take_more, take_more_set, map_push, length-map, length-take-le, get_or-set_same, get_or-set_other}
+use Rattle.std.proofs.lemmas.List.{take_more, take_more_set, map_push, length-map, length-take-le, get_or-map, get_or-take, get_or-set_same, get_or-set_other}
 use Rattle.std.proofs.lemmas.Option.{slice_get-get_or, slice_get_past}
 use Rattle.std.proofs.lemmas.Bool.{and_parts, and_from, not-true, not-false, not_from_false, eqb-false, eq-eqb, ne_eqb, ltb-true, lt-ltb, cases_lt}
 use Rattle.kinds.specs.Modifiers.{modifier_number}
@@ -139,5 +139,20 @@ all_found p xs i x h e =
     some_none : Some x ≡ None → ⊥
     some_none q = let z : ◌≡◌ {A = ℕ} 0 1 = cc in omega arith
 
+pub known_at : (order : List ℕ) (len i : ℕ) → i < len → i < length order → known (take len order) ≡ true → get_or order i 0 < 15
+known_at order len i l m h =
+    let size = length-take len order in
+    let inside : i < length (take len order) = omega arith in
+    ltb-true (get_or order i 0) 15 (ap (λ x. ltb x 15) (sym (get_or-take len order i 0 l)) ∙ all_nth (λ x. ltb x 15) (take len order) i 0 inside h)
+
 pub length_listed : (starts order : List ℕ) (len : ℕ) → len ≤ length order → length (listed starts (take len order)) ≡ len
 length_listed starts order len l = length-map (take len order) (entry_at starts) ∙ length-take-le len order l
+
+pub nth_listed : (starts order : List ℕ) (len i : ℕ) → i < len → len ≤ length order → slice_get (listed starts (take len order)) i ≡ Some (entry_at starts (get_or order i 0))
+nth_listed starts order len i l m =
+    let size = length_listed starts order len m in
+    let short = length-take-le len order m in
+    let inside : i < length (listed starts (take len order)) = omega arith in
+    let there : i < length (take len order) = omega arith in
+    slice_get-get_or (listed starts (take len order)) i (entry_at starts 0) inside
+    ∙ ap Some (get_or-map (entry_at starts) (take len order) i 0 (entry_at starts 0) there ∙ ap (entry_at starts) (get_or-take len order i 0 l))

@@ -1,10 +1,10 @@
 -- A table's questions by the tests of its tokens, and what is read of a table by what they answer.
 use Rattle.std.proofs.Common.{◌≡◌, ℕ, ◌+◌, Bool, true, false, cond, ◌&&◌, eqb, leb, List, [], ◌∷◌, length, drop, is_some, Option, sym, refl, ap, ◌∙◌, arith}
-use Rattle.std.specs.List.{list_all, position_or_len, zip}
+use Rattle.std.specs.List.{list_all, position_or_len}
 use Rattle.std.proofs.lemmas.List.{drop_all}
 use Rattle.std.proofs.lemmas.Bool.Decides.{nat_tests}
 use Rattle.reader.proofs.Closing.{ended_closed, sound_ended}
-use Rattle.reader.specs.Sound.{all_known, all_placed, before, known, sized, sound}
+use Rattle.reader.specs.Sound.{all_known, all_placed, known, sound}
 use Rattle.refusal.specs.declared.Refusal.{Refusal}
 use Rattle.refusal.proofs.Numbered.{some_number}
 use Rattle.refusal.specs.Questions.{first_no, number_of}
@@ -20,22 +20,6 @@ pub ended-by : (ts : List Token) → eqb (position_or_len is_eof ts + 1) (length
 ended-by [] = refl
 ended-by (t ∷ []) = grind (arith, nat_tests)
 ended-by (t ∷ (u ∷ us)) = let ih = ended-by (u ∷ us) in grind (arith, nat_tests)
-
--- a token before the next one
-abbrev pub precedes : Token × Token → Bool
-precedes p = before p.0 (p.1 ∷ [])
-
-pub all_placed-by : (ts : List Token) → (list_all sized ts && list_all precedes (zip ts (drop 1 ts))) ≡ all_placed ts
-all_placed-by [] = refl
-all_placed-by (t ∷ []) = grind (arith, nat_tests)
-all_placed-by (t ∷ (u ∷ us)) =
-    sorted (sized t) (list_all sized (u ∷ us)) (before t (u ∷ [])) (list_all precedes (zip (u ∷ us) us)) ∙ ap (λ b. sized t && before t (u ∷ us) && b) (all_placed-by (u ∷ us))
-  where
-    sorted : (a b c d : Bool) → ((a && b) && (c && d)) ≡ ((a && c) && (b && d))
-    sorted true true c d = refl
-    sorted true false true d = refl
-    sorted true false false d = refl
-    sorted false b c d = refl
 
 -- a table that is not refused is sound
 not_refused : (ts : List Token) → is_some (first_no (table_questions ts)) ≡ false → sound ts ≡ true

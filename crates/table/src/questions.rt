@@ -1,6 +1,6 @@
 //! The gate's questions 1 to 4, each asked of the whole table before the next one.
 
-ghost use Rattle.std.specs.Prelude.{◌≡◌, ◌∷◌, []};
+ghost use Rattle.std.specs.Prelude.{◌≡◌};
 ghost use Rattle.reader.specs.Sound.{all_known, all_placed, before, known, sized};
 ghost use Rattle.reader.specs.Tokens.{ended};
 ghost use Rattle.refusal.specs.Questions.{first_no, refused_by};
@@ -52,21 +52,28 @@ fn is_sized(t: Token) -> bool
     }
 }
 
-// The token does not reach beyond the start of the next one.
-fn is_before(t: Token, next: Token) -> bool
-    ensures { result ≡ before t (next ∷ []) }
+// The token does not reach beyond the start of the next one, if there is one.
+fn is_before(t: Token, after: &[Token]) -> bool
+    ensures { result ≡ before t after.now }
 {
-    t.kind == Kind::EOF || t.end <= next.start
+    match after {
+        [next, ..] => t.kind == Kind::EOF || t.end <= next.start,
+        [] => true,
+    }
 }
 
+// In one pass, so that a table is left at its first token that is not placed.
 fn are_placed(ts: &[Token]) -> bool
     ensures { result ≡ all_placed ts.now }
 {
-    ts.iter().all(|t| is_sized(*t))
-        && ts
-            .iter()
-            .zip(ts.iter().skip(1))
-            .all(|(t, next)| is_before(*t, *next))
+    let mut rest = ts;
+    while let [t, after @ ..] = rest {
+        if !is_sized(*t) || !is_before(*t, after) {
+            return false;
+        }
+        rest = after;
+    }
+    true
 }
 
 // The lowest question that fails, if any does.

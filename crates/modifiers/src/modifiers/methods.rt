@@ -76,12 +76,16 @@ impl Modifiers {
         self.len as usize
     }
 
+    // By a test of the index: with `get(i)?` the must-fail edit, which reads another place, fell for its form alone.
     /// The keyword at a place of the order.
     pub fn at(self, i: usize) -> Option<Modifier>
         ensures { result ≡ slice_get (entries self) i }
     {
-        let n = self.order[..self.len as usize].get(i)?;
-        Some(entry(self.starts, *n))
+        if i < self.len as usize {
+            Some(entry(self.starts, self.order[i]))
+        } else {
+            None
+        }
     }
 
     /// The keyword at a place of the order, with its own place in the script.

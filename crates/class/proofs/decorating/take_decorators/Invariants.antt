@@ -1,4 +1,4 @@
-use Rattle.std.proofs.Common.{◌≡◌, ℕ, ◌+◌, ◌-◌, ◌≤◌, List, [], length, Result}
+use Rattle.std.proofs.Common.{◌≡◌, ℕ, ◌+◌, List, [], length, Result}
 use Rattle.class.specs.Taking.{decorators_d}
 use Rattle.dialogue.specs.Spoken.{Spoke}
 use Rattle.dialogue.specs.declared.Fatal.{Fatal}
@@ -10,15 +10,12 @@ use Rattle.reports.specs.declared.Report.{Report}
 use Rattle.class.proofs.decorating.take_decorators.Given as goal
 
 -- what is said from here on ends what was said from the start
-abbrev pub invariant-loop-context : goal.invariant-loop-context
-invariant-loop-context g l =
+abbrev pub invariant-loop : goal.invariant-loop
+invariant-loop g l =
     record {
-      few : length (spans_of l.decorators) ≤ 16;
+      taken : length (spans_of l.decorators) ≡ l.counter;
       onward :
           (n : ℕ) (s : Scene) (k : Held Report) (r : Result (List Span) Fatal) → length (spans_of l.decorators) + n ≡ 16
           → Spoke (decorators_d l.context.bits n (spans_of l.decorators)) (scene g.S.TokenReader l.script) s l.reports k r
           → Spoke (decorators_d l.context.bits 16 []) (scene g.S.TokenReader l.initial.script) s l.initial.reports k r;
     }
-
-abbrev pub decreases-loop-context : goal.decreases-loop-context
-decreases-loop-context g l = 16 - length (spans_of l.decorators)
